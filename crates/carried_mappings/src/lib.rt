@@ -14,7 +14,6 @@
 //! for what is found of mappings, on `level_dual` for a search, and on `solved_program` for edits.
 #![tactic(auto)]
 
-mod copies;
 mod moving;
 mod order;
 mod places;

@@ -7,13 +7,27 @@ ghost use Rattle.carried_mappings.specs.Carrying.{IsStanding, new_number};
 ghost use Rattle.carried_mappings.specs.Moved.{moved_fall, moved_found, moved_mapping, moved_pair, moved_refutation};
 ghost use Rattle.carried_mappings.specs.Moved.{with_members};
 
-use crate::copies::{copied_multipliers, copied_point, copied_second, copied_sets};
 use crate::standing::Standing;
 use cti_terms::PredId;
+use level_dual::copied_sets;
 use level_systems::{Fall, Found, Mapping, Measure};
+use linear_rows::Point;
 use number_tests::{PairPoint, Refutation};
 use sequences::Sequence;
 use std::alloc::{AllocError, Global};
+
+/// A copy of a point, if there is one.
+fn copied_if(alloc: Global, point: &Option<Point>) -> Result<Option<Point>, AllocError>
+    ensures { IfOk result (λ copy. copy ≡ point.now) }
+{
+    match point {
+        Some(at) => {
+            let copy = at.copy(alloc)?;
+            Ok(Some(copy))
+        }
+        None => Ok(None),
+    }
+}
 
 /// The parts of the members, which have these numbers now.
 fn moved_measures(
@@ -58,7 +72,7 @@ impl Standing<'_> {
     {
         let mut moved = Sequence::new(alloc);
         for fall in falls {
-            let by = copied_multipliers(alloc, &fall.by)?;
+            let by = fall.by.copy(alloc)?;
             moved.push(Fall {
                 clause: self.number(fall.clause),
                 call: fall.call,
@@ -117,8 +131,8 @@ impl Standing<'_> {
     {
         let mut moved = Sequence::new(alloc);
         for pair in points {
-            let point = copied_point(alloc, &pair.point)?;
-            let at = copied_second(alloc, &pair.at)?;
+            let point = pair.point.copy(alloc)?;
+            let at = copied_if(alloc, &pair.at)?;
             moved.push(PairPoint {
                 clause: self.number(pair.clause),
                 call: pair.call,

@@ -2,38 +2,18 @@
 
 ghost use Rattle.std.specs.Prelude.{◌≡◌, IfOk};
 
-use linear_rows::{Multipliers, Point};
+use linear_rows::{Multipliers, Point, copied_multipliers};
 use number_tests::{PairPoint, Refutation};
 use sequences::Sequence;
 use std::alloc::{AllocError, Global};
 use termination_model::SizeRows;
-
-/// A copy of multipliers.
-pub fn copied_multipliers(alloc: Global, by: &Multipliers) -> Result<Multipliers, AllocError>
-    ensures { IfOk result (λ copy. copy ≡ by.now) }
-{
-    Ok(Multipliers {
-        scale: by.scale,
-        list: by.list.copy(alloc)?,
-    })
-}
-
-/// A copy of a point.
-fn copied_point(alloc: Global, point: &Point) -> Result<Point, AllocError>
-    ensures { IfOk result (λ copy. copy ≡ point.now) }
-{
-    Ok(Point {
-        t: point.t,
-        w: point.w.copy(alloc)?,
-    })
-}
 
 /// A copy of the second point, if there is one.
 fn copied_second(alloc: Global, at: &Option<Point>) -> Result<Option<Point>, AllocError>
     ensures { IfOk result (λ copy. copy ≡ at.now) }
 {
     match at {
-        Some(point) => Ok(Some(copied_point(alloc, point)?)),
+        Some(point) => Ok(Some(point.copy(alloc)?)),
         None => Ok(None),
     }
 }
@@ -42,7 +22,7 @@ fn copied_second(alloc: Global, at: &Option<Point>) -> Result<Option<Point>, All
 fn copied_pair(alloc: Global, pair: &PairPoint) -> Result<PairPoint, AllocError>
     ensures { IfOk result (λ copy. copy ≡ pair.now) }
 {
-    let point = copied_point(alloc, &pair.point)?;
+    let point = pair.point.copy(alloc)?;
     let at = copied_second(alloc, &pair.at)?;
     Ok(PairPoint {
         clause: pair.clause,
@@ -74,17 +54,6 @@ pub fn copied_rows(alloc: Global, rows: &SizeRows) -> Result<SizeRows, AllocErro
     Ok(copy)
 }
 
-/// A copy of a list of multipliers.
-pub fn copied_list(alloc: Global, list: &[Multipliers]) -> Result<Sequence<Multipliers>, AllocError>
-    ensures { IfOk result (λ copy. copy ≡ list.now) }
-{
-    let mut copy = Sequence::new(alloc);
-    for by in list {
-        copy.push(copied_multipliers(alloc, by)?)?;
-    }
-    Ok(copy)
-}
-
 /// A copy of the multipliers of clauses.
 pub fn copied_proofs(
     alloc: Global,
@@ -94,7 +63,7 @@ pub fn copied_proofs(
 {
     let mut copy = Sequence::new(alloc);
     for list in proofs {
-        copy.push(copied_list(alloc, list.as_slice())?)?;
+        copy.push(copied_multipliers(alloc, list.as_slice())?)?;
     }
     Ok(copy)
 }

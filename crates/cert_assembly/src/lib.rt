@@ -16,7 +16,7 @@ mod ranges;
 mod sets;
 
 pub use chain_notes::{note_chain, note_components, print_chain};
-pub use copies::{copied_list, copied_multipliers, copied_proofs, copied_refutation, copied_rows};
+pub use copies::{copied_proofs, copied_refutation, copied_rows};
 pub use leading::led_by;
 pub use measured::{Measured, move_sizes, put_sizes};
 pub use named::pred_text;

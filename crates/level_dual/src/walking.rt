@@ -54,6 +54,20 @@ pub fn copied(alloc: Global, set: &[u32]) -> Result<Sequence<u32>, AllocError>
     Ok(Sequence::from_vec(Vec::from_slice(alloc, set)?))
 }
 
+/// A copy of sets.
+pub fn copied_sets(
+    alloc: Global,
+    sets: &[Sequence<u32>],
+) -> Result<Sequence<Sequence<u32>>, AllocError>
+    ensures { IfOk result (λ copy. copy ≡ sets.now) }
+{
+    let mut copies = Sequence::new(alloc);
+    for set in sets {
+        copies.push(set.copy(alloc)?)?;
+    }
+    Ok(copies)
+}
+
 /// Searches at one more set, unless it is above one that was found or given up.
 fn visit(
     alloc: Global,

@@ -4,10 +4,10 @@ ghost use Rattle.std.specs.Prelude.{◌≡◌, ◌<◌, IfOk, length, map};
 ghost use Rattle.cert_structure.specs.Shape.{arity_in};
 ghost use Rattle.lex_measures.specs.Lists.{list_of, place_of};
 
-use cert_assembly::{copied_list, part_of};
+use cert_assembly::part_of;
 use cti_terms::{PredId, Program};
 use lex_turns::MeasureList;
-use linear_rows::Multipliers;
+use linear_rows::{Multipliers, copied_multipliers};
 use number_tests::LevelPart;
 use sequences::Sequence;
 use std::alloc::{AllocError, Global};
@@ -57,7 +57,7 @@ fn place_of(
 {
     for drops in list.drops.as_slice() {
         if drops.clause == clause && drops.call == call {
-            return copied_list(alloc, drops.by.as_slice());
+            return copied_multipliers(alloc, drops.by.as_slice());
         }
     }
     Ok(Sequence::new(alloc))

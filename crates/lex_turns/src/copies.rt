@@ -1,8 +1,7 @@
-//! Copies of mappings and sets.
+//! Copies of mappings.
 
 ghost use Rattle.std.specs.Prelude.{◌≡◌, IfOk};
 
-use level_dual::copied;
 use level_systems::Measure;
 use sequences::Sequence;
 use std::alloc::{AllocError, Global};
@@ -27,20 +26,6 @@ pub(crate) fn copied_measures(
     let mut copies = Sequence::new(alloc);
     for measure in measures {
         copies.push(copied_measure(alloc, measure)?)?;
-    }
-    Ok(copies)
-}
-
-/// A copy of sets.
-pub(crate) fn copied_sets(
-    alloc: Global,
-    sets: &[Sequence<u32>],
-) -> Result<Sequence<Sequence<u32>>, AllocError>
-    ensures { IfOk result (λ copy. copy ≡ sets.now) }
-{
-    let mut copies = Sequence::new(alloc);
-    for set in sets {
-        copies.push(copied(alloc, set.as_slice())?)?;
     }
     Ok(copies)
 }

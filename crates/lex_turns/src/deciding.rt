@@ -14,7 +14,6 @@ ghost use Rattle.lex_turns.specs.Single.{one_list};
 ghost use Rattle.linear_rows.specs.Step.{columns};
 ghost use Rattle.termination_model.specs.sizes.Sizes.{AreSizes, rows_of};
 
-use crate::copies::copied_sets;
 use crate::course::Ended;
 use crate::found_lists::FoundLists;
 use crate::large::find_large;
@@ -24,7 +23,7 @@ use crate::single::list_of_one;
 use crate::small::find_small;
 use crate::stuck::{Halt, stuck_set};
 use cti_terms::Program;
-use level_dual::{is_large, one_set, positions_at};
+use level_dual::{copied_sets, is_large, one_set, positions_at};
 use level_systems::{Answer, Component, Mapping};
 use number_tests::Refutation;
 use sequences::Sequence;

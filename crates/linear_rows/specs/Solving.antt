@@ -8,7 +8,7 @@
 -- or of the last check does not fit.
 --
 -- This retells a procedure, and no promise on sizes or levels rests on it. That a found point is one and that a
--- refutation refutes are the laws `found_points_hold` and `refutations_refute` of this crate.
+-- refutation refutes is the law `solving_decides` of this crate.
 use Rattle.std.specs.Prelude.{ℕ, zero, suc, ℤ, pos, negsuc, neg_ℤ, List, [], ◌∷◌, ◌++◌, ◌/◌, ◌+◌, ◌+ℤ◌, ◌-ℤ◌, ◌*ℤ◌, Bool, true, ◌&&◌, Option, Some, None, unsigned_abs, if◌then◌else◌, drop, take, length}
 use Rattle.exact128.specs.Fits.{fits}
 use Rattle.exact128.specs.Gcd.{gcd}

@@ -3,8 +3,7 @@
 //! A row says that its constant and the products of its coefficients with natural numbers sum to at least 0. No call
 //! here searches: `combine` and `proves` compute with given multipliers. What it means for rows to hold, to prove, to
 //! be eliminated and to be solved is defined in `specs/`, over plain lists of whole numbers without bound, and the laws
-//! of these words are functions without a body. The crate depends on `exact128` and
-//! `sequences`.
+//! of these words are functions without a body. The crate depends on `exact128` and `sequences`.
 #![tactic(auto)]
 
 mod columns;
@@ -18,7 +17,7 @@ mod row;
 mod system;
 
 pub use combining::{RowFault, combine};
-pub use multipliers::{Multipliers, Proof};
+pub use multipliers::{Multipliers, Proof, copied_multipliers};
 pub use numbers::{Numbers, zeros};
 pub use point::Point;
 pub use proving::proves;

@@ -1,10 +1,25 @@
 //! Points at which rows hold or fail.
 
+ghost use Rattle.std.specs.Prelude.{◌≡◌, IfOk};
+
 use crate::numbers::Numbers;
+use std::alloc::{AllocError, Global};
 
 /// Naturals `w` over the natural `t`, which is at least 1: the rationals w/t.
 #[derive(Drop)]
 pub struct Point {
     pub t: i128,
     pub w: Numbers,
+}
+
+impl Point {
+    /// The same point once more.
+    pub fn copy(&self, alloc: Global) -> Result<Point, AllocError>
+        ensures { IfOk result (λ copy. copy ≡ self.now) }
+    {
+        Ok(Point {
+            t: self.t,
+            w: self.w.copy(alloc)?,
+        })
+    }
 }

@@ -20,7 +20,7 @@ enum Said {
     Blown,
 }
 
-/// Whether solving says this of rows over so many variables.
+/// Whether solving says this of rows over this number of variables.
 fn is_said(solved: Result<Solved, ElimFault>, width: u32, said: Said) -> bool {
     match (solved, said) {
         (Ok(Solved::Point(point)), Said::Last(last)) => {

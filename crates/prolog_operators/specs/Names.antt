@@ -1,4 +1,4 @@
--- Private.
+-- To believe, for reading.
 -- Names by number: a name's number is that of its text in a list of names, which only grows.
 --
 -- To believe: all of this file, and in cti_terms `number_of`.

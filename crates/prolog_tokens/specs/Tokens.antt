@@ -2,7 +2,7 @@
 -- The token at the front of some bytes, computed.
 --
 -- The code is proved against these functions. That they give the longest text of a form, and the faults, is the law
--- `longest_match`, over the words of Forms.antt, Gaps.antt and Next.antt, which are what a reader has to believe.
+-- `longest_match`, over the words of Forms.antt, Gaps.antt and Next.antt, which a reader may believe in their place.
 use Rattle.std.specs.Prelude.{ℕ, ◌+◌, ◌^◌, ◌||◌, ◌&&◌, ◌==◌, Bool, false, nat_lt, List, [], ◌∷◌, take, drop, pos, Result, Ok, Err, if◌then◌else◌}
 use Rattle.std.specs.List.{prefix_len}
 use Rattle.prolog_tokens.specs.Bytes.{is_small, is_capital, is_digit, is_word, is_graphic, begins_with, ends_clause}

@@ -9,7 +9,7 @@ ghost use Rattle.cert_assembly.specs.Parted.{part_or_zero, zero_part};
 ghost use Rattle.cert_assembly.specs.Leading.{led_by};
 
 use call_components::Components;
-use cert_assembly::{copied_multipliers, copied_refutation, led_by, part_of, zero_part};
+use cert_assembly::{copied_refutation, led_by, part_of, zero_part};
 use cti_terms::{Atom, PredId, Program};
 use level_dual::{Found, Mapping};
 use linear_rows::{Multipliers, Numbers};
@@ -28,7 +28,7 @@ fn fall_of(
 {
     for fall in mapping.falls.as_slice() {
         if fall.clause == clause && fall.call == call {
-            return copied_multipliers(alloc, &fall.by);
+            return fall.by.copy(alloc);
         }
     }
     Ok(Multipliers {

@@ -5,11 +5,10 @@ ghost use Rattle.termination_model.specs.sizes.Sizes.{AreSizes};
 ghost use Rattle.solved_program.specs.Carried.{AreCarriedProofs, AreCarriedRows, IsCarriedRow};
 ghost use Rattle.solved_program.specs.Kept.{AreKept};
 
-use crate::copies::copied_proofs;
 use crate::edit::Edit;
 use crate::solved_sizes::SolvedSizes;
 use cti_terms::PredId;
-use linear_rows::{Multipliers, Rows};
+use linear_rows::{Multipliers, Rows, copied_multipliers};
 use sequences::Sequence;
 use std::alloc::{AllocError, Global};
 use termination_model::{SizeRows, Sizes};
@@ -58,7 +57,7 @@ fn carried_by(
     ensures { IfOk result (λ by. (j : ℕ) → kept ≡ Some j → slice_get proofs.now (j - 1) ≡ Some by) }
 {
     match kept {
-        Some(k) => copied_proofs(alloc, proofs.get(k as usize - 1).as_slice()),
+        Some(k) => copied_multipliers(alloc, proofs.get(k as usize - 1).as_slice()),
         None => Ok(Sequence::new(alloc)),
     }
 }

@@ -4,9 +4,8 @@ ghost use Rattle.std.specs.Prelude.{◌≡◌, ◌≤◌, ◌<◌, OnOk, All, le
 ghost use Rattle.call_components.specs.Numbers.{number_of};
 ghost use Rattle.solved_program.specs.Taken.{AreTaken, place_of};
 
-use crate::copies::copied_proofs;
 use cti_terms::PredId;
-use linear_rows::Multipliers;
+use linear_rows::{Multipliers, copied_multipliers};
 use sequences::Sequence;
 use std::alloc::{AllocError, Global};
 use termination_model::SizeRows;
@@ -44,7 +43,7 @@ pub(crate) fn take_proofs(
 {
     for k in own {
         let place = *k as usize - 1;
-        let by = copied_proofs(alloc, from.get(place).as_slice())?;
+        let by = copied_multipliers(alloc, from.get(place).as_slice())?;
         to.set(place, by);
     }
     Ok(())

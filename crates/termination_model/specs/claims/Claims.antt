@@ -62,7 +62,7 @@ IsInductive c k = (s : ℕ → ℕ) → AllByRecursion (IsSized c s) k.body → 
 abbrev pub IsRanked : Claims → Clause → Type 0
 IsRanked c k = AllByRecursion (λ (b : Atom). c.rank b.pred.0 ≤ c.rank k.head.pred.0) k.body
 
--- the level of an atom, as a row over so many variables
+-- the level of an atom, as a row over this number of variables
 abbrev pub level_row : Claims → ℕ → Mapping → Atom → List ℤ
 level_row c vars l a = row_over c.expression vars a.args (pos (l.offset a.pred.0) ∷ map pos (l.coefficients a.pred.0))
 

@@ -1,5 +1,5 @@
 use Rattle.std.proofs.Common.{◌≡◌, take}
-use Rattle.lex_turns.proofs.copies.copied_sets.Given as goal
+use Rattle.level_dual.proofs.walking.copied_sets.Given as goal
 
 abbrev pub invariant-loop-set : goal.invariant-loop-set
 invariant-loop-set l = l.copies ≡ take l.set-index l.sets

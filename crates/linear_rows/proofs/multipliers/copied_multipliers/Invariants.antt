@@ -1,5 +1,5 @@
 use Rattle.std.proofs.Common.{◌≡◌, take}
-use Rattle.cert_assembly.proofs.copies.copied_list.Given as goal
+use Rattle.linear_rows.proofs.multipliers.copied_multipliers.Given as goal
 
 abbrev pub invariant-loop-by : goal.invariant-loop-by
 invariant-loop-by l = l.copy ≡ take l.by-index l.list
