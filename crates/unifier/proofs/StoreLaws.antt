@@ -1,14 +1,14 @@
 -- Laws of stored bindings.
-use Rattle.std.proofs.Common.{◌≡◌, ◌≢◌, ℕ, zero, suc, ◌<◌, Bool, true, false, ◌==◌, if◌then◌else◌, List, [], ◌∷◌, ◌++◌, map, reverse, length, drop, set, Option, None, Some, IfSome, option_map, refl, ap, sym, ◌∙◌, subst, arith, eqb-true}
+use Rattle.std.proofs.Common.{◌≡◌, ◌≢◌, ℕ, zero, suc, ◌<◌, Bool, true, false, ◌==◌, ◌||◌, if◌then◌else◌, List, [], ◌∷◌, ◌++◌, length, drop, set, Option, None, Some, IfSome, option_map, refl, ap, sym, ◌∙◌, subst, arith, eqb-true}
 use Rattle.std.specs.Prelude.{unwrap_or}
 use Rattle.std.proofs.lemmas.Bool.Decides.{nat_tests}
-use Rattle.std.proofs.lemmas.List.{map-append, reverse-append, length-reverse, length-map}
+use Rattle.std.proofs.lemmas.List.{length-map}
 use Rattle.cti_terms.specs.Tree.{Tree, Variable, Integer, Compound, instance}
 use Rattle.cti_terms.specs.Unify.{Binding, occurs, only, applied}
 use Rattle.cti_terms.proofs.Unifier.{absent, only_same}
 use Rattle.unifier.specs.declared.raised_term.RaisedTerm.{RaisedTerm}
 use Rattle.unifier.specs.Raised.{raised_tree}
-use Rattle.unifier.specs.Slots.{slot}
+use Rattle.unifier.specs.Slots.{slot, is_in}
 use Rattle.unifier.specs.Store.{stored, made, full, IsOpen, MayBind, AreMade, one_more, chain, chain_of, binding_in, trail_of, IsStore}
 
 -- bindings in turn
@@ -128,48 +128,41 @@ slot_set_other (x ∷ xs) zero (suc j) v h = refl
 slot_set_other (x ∷ xs) (suc i) zero v h = refl
 slot_set_other (x ∷ xs) (suc i) (suc j) v h = slot_set_other xs i j v (λ e. h (ap suc e))
 
-pub trail_more : (slots : List (Option Tree)) (xs : List ℕ) (x : ℕ) → trail_of slots (xs ++ x ∷ []) ≡ binding_in slots x ∷ trail_of slots xs
-trail_more slots xs x = ap reverse (map-append (binding_in slots) xs (x ∷ [])) ∙ reverse-append (map (binding_in slots) xs) (binding_in slots x ∷ [])
-
 -- as many bindings
 pub length-trail_of : (slots : List (Option Tree)) (xs : List ℕ) → length (trail_of slots xs) ≡ length xs
-length-trail_of slots xs = length-reverse (map (binding_in slots) xs) ∙ length-map xs (binding_in slots)
+length-trail_of slots xs = length-map xs (binding_in slots)
 
 -- a variable that is free with one more binding is free, and another one than the binding's
-stored_last : (s : List Binding) (b : Binding) (x : ℕ) → stored (s ++ b ∷ []) x ≡ None → (stored s x ≡ None) × ((b.0 == x) ≡ false)
-stored_last [] b x h = (refl, go (b.0 == x) h)
+stored_first : (s : List Binding) (b : Binding) (x : ℕ) → stored (b ∷ s) x ≡ None → (stored s x ≡ None) × ((b.0 == x) ≡ false)
+stored_first s b x h = go (b.0 == x) h
   where
-    go : (c : Bool) → (if c then Some b.1 else None) ≡ None → c ≡ false
+    go : (c : Bool) → (if c then Some b.1 else stored s x) ≡ None → (stored s x ≡ None) × (c ≡ false)
     go true k = cc
-    go false k = refl
-stored_last (a ∷ s) b x h = go (a.0 == x) h (stored_last s b x)
-  where
-    go : (c : Bool) → (if c then Some a.1 else stored (s ++ b ∷ []) x) ≡ None → (stored (s ++ b ∷ []) x ≡ None → (stored s x ≡ None) × ((b.0 == x) ≡ false)) → ((if c then Some a.1 else stored s x) ≡ None) × ((b.0 == x) ≡ false)
-    go true k rest = cc
-    go false k rest = rest k
+    go false k = (k, refl)
+
+-- a free variable is none of those that are bound
+pub is_in_none : (slots : List (Option Tree)) (xs : List ℕ) (x : ℕ) → stored (trail_of slots xs) x ≡ None → is_in x xs ≡ false
+is_in_none slots [] x h = refl
+is_in_none slots (y ∷ ys) x h =
+    let parts = stored_first (trail_of slots ys) (binding_in slots y) x h in
+    ap (λ c. c || is_in x ys) parts.1 ∙ is_in_none slots ys x parts.0
 
 -- the slot of a free variable says nothing of the bindings
 trail_kept : (slots more : List (Option Tree)) (x : ℕ) (xs : List ℕ) → ((y : ℕ) → (y == x) ≡ false → slot more y ≡ slot slots y) → stored (trail_of slots xs) x ≡ None → trail_of more xs ≡ trail_of slots xs
 trail_kept slots more x [] same h = refl
 trail_kept slots more x (y ∷ ys) same h =
-    let split = reverse-append (binding_in slots y ∷ []) (map (binding_in slots) ys) in
-    let parts = stored_last (trail_of slots ys) (binding_in slots y) x (ap (λ l. stored l x) (sym split) ∙ h) in
+    let parts = stored_first (trail_of slots ys) (binding_in slots y) x h in
     let term = same y parts.1 in
     let others = trail_kept slots more x ys same parts.0 in
-    reverse-append (binding_in more y ∷ []) (map (binding_in more) ys)
-    ∙ (λ i. others i ++ (y, unwrap_or (term i) (Variable y)) ∷ [])
-    ∙ sym split
+    λ i. (y, unwrap_or (term i) (Variable y)) ∷ others i
 
 set_kept : (slots : List (Option Tree)) (x : ℕ) (v : Option Tree) (xs : List ℕ) → stored (trail_of slots xs) x ≡ None → trail_of (set slots x v) xs ≡ trail_of slots xs
 set_kept slots x v xs h = trail_kept slots (set slots x v) x xs (λ y e. slot_set_other slots x y v (λ z. eqb_false y x e (sym z))) h
 
 -- the same slots
-bindings_same : (slots more : List (Option Tree)) → ((x : ℕ) → slot more x ≡ slot slots x) → (xs : List ℕ) → map (binding_in more) xs ≡ map (binding_in slots) xs
-bindings_same slots more same [] = refl
-bindings_same slots more same (x ∷ xs) = λ i. (x, unwrap_or (same x i) (Variable x)) ∷ bindings_same slots more same xs i
-
 pub trail_same : (slots more : List (Option Tree)) (trail : List ℕ) → ((x : ℕ) → slot more x ≡ slot slots x) → trail_of more trail ≡ trail_of slots trail
-trail_same slots more trail same = ap reverse (bindings_same slots more same trail)
+trail_same slots more [] same = refl
+trail_same slots more (x ∷ xs) same = λ i. (x, unwrap_or (same x i) (Variable x)) ∷ trail_same slots more xs same i
 
 pub store_same : (slots more : List (Option Tree)) (trail : List ℕ) → IsStore slots trail → ((x : ℕ) → slot more x ≡ slot slots x) → IsStore more trail
 store_same slots more trail s same =
@@ -178,13 +171,13 @@ store_same slots more trail s same =
 
 -- a binding is kept
 module _ (slots : List (Option Tree)) (trail : List ℕ) (x : ℕ) (r : Tree) (s : IsStore slots trail) (within : x < length slots) (may : MayBind (trail_of slots trail) x r) where
-  pub trail_bound : trail_of (set slots x (Some r)) (trail ++ x ∷ []) ≡ (x, r) ∷ trail_of slots trail
+  pub trail_bound : trail_of (set slots x (Some r)) (x ∷ trail) ≡ (x, r) ∷ trail_of slots trail
   trail_bound =
       let term = slot_set_same slots x (Some r) within in
       let others = set_kept slots x (Some r) trail may.free in
-      trail_more (set slots x (Some r)) trail x ∙ (λ i. (x, unwrap_or (term i) (Variable x)) ∷ others i)
+      λ i. (x, unwrap_or (term i) (Variable x)) ∷ others i
 
-  pub store_more : IsStore (set slots x (Some r)) (trail ++ x ∷ [])
+  pub store_more : IsStore (set slots x (Some r)) (x ∷ trail)
   store_more = record {
     agree = λ y. ap (λ l. stored l y) trail_bound ∙ at y (x == y) refl;
     made = subst AreMade (sym trail_bound) (may, s.made);
@@ -201,39 +194,27 @@ module _ (slots : List (Option Tree)) (trail : List ℕ) (x : ℕ) (r : Tree) (s
           ∙ sym (slot_set_other slots x y (Some r) (eqb_false x y e))
 
 -- the last binding is taken back
-module _ (slots : List (Option Tree)) (trail : List ℕ) (x : ℕ) (s : IsStore slots (trail ++ x ∷ [])) where
+module _ (slots : List (Option Tree)) (trail : List ℕ) (x : ℕ) (s : IsStore slots (x ∷ trail)) (within : x < length slots) where
   abbrev term : Tree
   term = unwrap_or (slot slots x) (Variable x)
 
-  before : AreMade (binding_in slots x ∷ trail_of slots trail)
-  before = subst AreMade (trail_more slots trail x) s.made
-
   old : (y : ℕ) → (if x == y then Some term else stored (trail_of slots trail) y) ≡ slot slots y
-  old y = sym (ap (λ l. stored l y) (trail_more slots trail x)) ∙ s.agree y
-
-  -- its variable has a slot
-  pub last_within : x < length slots
-  last_within = there slots x (sym (old x) ∙ if_same (x == x) (Some term) (stored (trail_of slots trail) x) (eqb_same x))
-    where
-      there : (os : List (Option Tree)) (i : ℕ) → slot os i ≡ Some term → i < length os
-      there [] i h = cc
-      there (o ∷ os) zero h = omega arith
-      there (o ∷ os) (suc i) h = let k = there os i h in omega (arith, k)
+  old y = s.agree y
 
   kept : trail_of (set slots x None) trail ≡ trail_of slots trail
-  kept = set_kept slots x None trail before.0.free
+  kept = set_kept slots x None trail s.made.0.free
 
-  pub trail_less : trail_of (set slots x None) trail ≡ drop 1 (trail_of slots (trail ++ x ∷ []))
-  trail_less = kept ∙ ap (drop 1) (sym (trail_more slots trail x))
+  pub trail_less : trail_of (set slots x None) trail ≡ drop 1 (trail_of slots (x ∷ trail))
+  trail_less = kept
 
   pub store_less : IsStore (set slots x None) trail
-  store_less = record { agree = λ y. ap (λ l. stored l y) kept ∙ at y (x == y) refl; made = subst AreMade (sym kept) before.1 }
+  store_less = record { agree = λ y. ap (λ l. stored l y) kept ∙ at y (x == y) refl; made = subst AreMade (sym kept) s.made.1 }
     where
       at : (y : ℕ) (c : Bool) → (x == y) ≡ c → stored (trail_of slots trail) y ≡ slot (set slots x None) y
       at y true e =
           ap (stored (trail_of slots trail)) (sym (eqb-true x y e))
-          ∙ before.0.free
-          ∙ sym (slot_set_same slots x None last_within)
+          ∙ s.made.0.free
+          ∙ sym (slot_set_same slots x None within)
           ∙ ap (slot (set slots x None)) (eqb-true x y e)
       at y false e =
           sym (if_other (x == y) (Some term) (stored (trail_of slots trail) y) e)

@@ -3,7 +3,7 @@
 --
 -- A binding is stored with the term as it was met. The definition's binding has the earlier bindings applied to it.
 -- Stored bindings stand in a list with the last one made first. Nothing here has to be believed.
-use Rattle.std.specs.Prelude.{◌≡◌, ℕ, zero, suc, false, ◌==◌, if◌then◌else◌, List, [], ◌∷◌, ◌++◌, map, reverse, Option, None, Some, unwrap_or}
+use Rattle.std.specs.Prelude.{◌≡◌, ℕ, zero, suc, false, ◌==◌, if◌then◌else◌, List, [], ◌∷◌, ◌++◌, map, Option, None, Some, unwrap_or}
 use Rattle.cti_terms.specs.Tree.{Tree, Trees, Variable, Integer, Compound, all_instances}
 use Rattle.cti_terms.specs.Unify.{Binding, occurs, applied}
 use Rattle.unifier.specs.Slots.{slot}
@@ -62,9 +62,9 @@ chain_of s (Compound f ts) = 0
 abbrev pub binding_in : List (Option Tree) → ℕ → Binding
 binding_in slots x = (x, unwrap_or (slot slots x) (Variable x))
 
--- the bindings of variables in slots, of which the last one was made last
+-- the bindings of variables in slots, the last one made first
 abbrev pub trail_of : List (Option Tree) → List ℕ → List Binding
-trail_of slots xs = reverse (map (binding_in slots) xs)
+trail_of slots xs = map (binding_in slots) xs
 
 -- the variables of the trail have terms in their slots, and no others have
 pub record IsStore (slots : List (Option Tree)) (trail : List ℕ) : Type 0 where

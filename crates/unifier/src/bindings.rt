@@ -16,17 +16,9 @@ use std::marker::Model;
 /// A variable is bound to a term as the program spells it, so that a binding copies no term.
 ///
 /// Source: the binding store and the trail of Warren 1983, with structure sharing as in Boyer and Moore 1972.
+#[derive(Drop)]
 pub struct Bindings<'p> {
-    /// The term of each bound variable.
     slots: Slots<'p>,
-    /// The bound variables, in the order in which they were bound.
-    trail: Vec<u32>,
-}
-
-impl Drop for Bindings<'_> {
-    fn drop(self) {
-        let Bindings { slots: _, trail: _ } = self;
-    }
 }
 
 impl<'p> Model for Bindings<'p> {
@@ -34,15 +26,16 @@ impl<'p> Model for Bindings<'p> {
     ghost use Rattle.std.specs.Coded.{coded_list, coded×, coded_ℕ};
     ghost use Rattle.cti_terms.specs.Unify.{Binding};
     ghost use Rattle.cti_terms.specs.Coding.{coded_tree};
+    ghost use Rattle.unifier.specs.Slots.{trees, bound};
     ghost use Rattle.unifier.specs.Store.{trail_of, IsStore};
 
     ghost Value = { List Binding };
 
     ghost coded = { coded_list (coded× coded_ℕ coded_tree) };
 
-    ghost view = { λ a. trail_of a.slots a.trail.items };
+    ghost view = { λ a. trail_of (trees a.slots) (bound a.slots) };
 
-    ghost invariant = { λ a. IsStore a.slots a.trail.items };
+    ghost invariant = { λ a. IsStore (trees a.slots) (bound a.slots) };
 }
 
 impl<'p> Bindings<'p> {
@@ -52,7 +45,6 @@ impl<'p> Bindings<'p> {
     {
         Bindings {
             slots: Slots::new(alloc),
-            trail: Vec::new(alloc),
         }
     }
 
@@ -61,7 +53,7 @@ impl<'p> Bindings<'p> {
         ensures count { result ≡ length self.now }
         ensures made { AreMade self.now }
     {
-        self.trail.len()
+        self.slots.len()
     }
 
     /// The slot of a variable.
@@ -83,26 +75,15 @@ impl<'p> Bindings<'p> {
         self.slot(variable)
     }
 
-    /// Makes room for the variables below this number.
-    pub fn reserve(&mut self, count: usize) -> Result<(), AllocError>
-        ensures { OnOk result (self.new ≡ self.old) }
-    {
-        self.slots.reserve(count)
-    }
-
-    /// Binds a variable. One whose number has more than 32 bits is out of memory.
+    /// Binds a variable. One whose number is 2^32 - 1 or more is out of memory.
     #[inline(always)]
     pub fn bind(&mut self, variable: usize, term: RaisedTerm<'p>) -> Result<(), AllocError>
         requires small { variable < 2 ^ 33 }
         requires may { MayBind self.old variable (raised_tree term) }
         ensures { OnOk result (self.new ≡ (variable, raised_tree term.entry) ∷ self.old) }
     {
-        if variable > u32::MAX as usize {
-            return Err(AllocError);
-        }
-        self.slots.reserve(variable + 1)?;
-        self.trail.push(variable as u32)?;
-        self.slots.set(variable, term);
+        self.slots.reserve(variable + 1, term.term)?;
+        self.slots.bind(variable, term);
         Ok(())
     }
 
@@ -111,10 +92,7 @@ impl<'p> Bindings<'p> {
         requires { 0 < length self.old }
         ensures { self.new ≡ drop 1 self.old }
     {
-        match self.trail.pop() {
-            Some(variable) => self.slots.clear(variable as usize),
-            None => unreachable!(),
-        }
+        self.slots.unbind();
     }
 
     /// Takes back all bindings but the first ones, of this number.

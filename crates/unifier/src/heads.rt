@@ -352,7 +352,6 @@ pub fn unify_head<'p>(
         (over (full bindings.old)
         (raised base atom.now)) fresh clause.now) bindings.old bindings.new) }
 {
-    bindings.reserve(fresh as usize + clause.vars as usize)?;
     let left = atom.args.as_slice();
     let right = clause.head.args.as_slice();
     let count = left.len().min(right.len());

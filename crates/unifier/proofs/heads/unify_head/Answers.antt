@@ -31,7 +31,7 @@ loop-i-init c =
     let below = subst (LeftBelow c.args.fresh) (sym (waits at.After-as_slice-right)) (left_arguments c.args.fresh a.args (raised c.args.fresh c.args.clause.now.head).args c.requires.below) in
     record {
       within = omega arith;
-      unified = rw c.in_ok-reserve.ensures (none_unified k c.args.base c.args.fresh ts us c.args.fresh below);
+      unified = none_unified k c.args.base c.args.fresh ts us c.args.fresh below;
     }
 
 pub loop-i-preserved : goal.loop-i-preserved
