@@ -9,7 +9,7 @@ use Rattle.cti_terms.proofs.Unifier.{absent, only_same}
 use Rattle.unifier.specs.declared.raised_term.RaisedTerm.{RaisedTerm}
 use Rattle.unifier.specs.Raised.{raised_tree}
 use Rattle.unifier.specs.Slots.{slot, is_in}
-use Rattle.unifier.specs.Store.{stored, made, full, IsOpen, MayBind, AreMade, one_more, chain, chain_of, binding_in, trail_of, IsStore}
+use Rattle.unifier.specs.Store.{stored, made, full, IsOpen, MayBind, AreMade, one_more, chain, chain_of, binding_in, bindings_of, IsStore}
 
 -- bindings in turn
 pub applied-append : (bs cs : List Binding) (t : Tree) → applied (bs ++ cs) t ≡ applied cs (applied bs t)
@@ -129,8 +129,8 @@ slot_set_other (x ∷ xs) (suc i) zero v h = refl
 slot_set_other (x ∷ xs) (suc i) (suc j) v h = slot_set_other xs i j v (λ e. h (ap suc e))
 
 -- as many bindings
-pub length-trail_of : (slots : List (Option Tree)) (xs : List ℕ) → length (trail_of slots xs) ≡ length xs
-length-trail_of slots xs = length-map xs (binding_in slots)
+pub length-bindings_of : (slots : List (Option Tree)) (xs : List ℕ) → length (bindings_of slots xs) ≡ length xs
+length-bindings_of slots xs = length-map xs (binding_in slots)
 
 -- a variable that is free with one more binding is free, and another one than the binding's
 stored_first : (s : List Binding) (b : Binding) (x : ℕ) → stored (b ∷ s) x ≡ None → (stored s x ≡ None) × ((b.0 == x) ≡ false)
@@ -141,83 +141,83 @@ stored_first s b x h = go (b.0 == x) h
     go false k = (k, refl)
 
 -- a free variable is none of those that are bound
-pub is_in_none : (slots : List (Option Tree)) (xs : List ℕ) (x : ℕ) → stored (trail_of slots xs) x ≡ None → is_in x xs ≡ false
+pub is_in_none : (slots : List (Option Tree)) (xs : List ℕ) (x : ℕ) → stored (bindings_of slots xs) x ≡ None → is_in x xs ≡ false
 is_in_none slots [] x h = refl
 is_in_none slots (y ∷ ys) x h =
-    let parts = stored_first (trail_of slots ys) (binding_in slots y) x h in
+    let parts = stored_first (bindings_of slots ys) (binding_in slots y) x h in
     ap (λ c. c || is_in x ys) parts.1 ∙ is_in_none slots ys x parts.0
 
 -- the slot of a free variable says nothing of the bindings
-trail_kept : (slots more : List (Option Tree)) (x : ℕ) (xs : List ℕ) → ((y : ℕ) → (y == x) ≡ false → slot more y ≡ slot slots y) → stored (trail_of slots xs) x ≡ None → trail_of more xs ≡ trail_of slots xs
-trail_kept slots more x [] same h = refl
-trail_kept slots more x (y ∷ ys) same h =
-    let parts = stored_first (trail_of slots ys) (binding_in slots y) x h in
+bindings_kept : (slots more : List (Option Tree)) (x : ℕ) (xs : List ℕ) → ((y : ℕ) → (y == x) ≡ false → slot more y ≡ slot slots y) → stored (bindings_of slots xs) x ≡ None → bindings_of more xs ≡ bindings_of slots xs
+bindings_kept slots more x [] same h = refl
+bindings_kept slots more x (y ∷ ys) same h =
+    let parts = stored_first (bindings_of slots ys) (binding_in slots y) x h in
     let term = same y parts.1 in
-    let others = trail_kept slots more x ys same parts.0 in
+    let others = bindings_kept slots more x ys same parts.0 in
     λ i. (y, unwrap_or (term i) (Variable y)) ∷ others i
 
-set_kept : (slots : List (Option Tree)) (x : ℕ) (v : Option Tree) (xs : List ℕ) → stored (trail_of slots xs) x ≡ None → trail_of (set slots x v) xs ≡ trail_of slots xs
-set_kept slots x v xs h = trail_kept slots (set slots x v) x xs (λ y e. slot_set_other slots x y v (λ z. eqb_false y x e (sym z))) h
+set_kept : (slots : List (Option Tree)) (x : ℕ) (v : Option Tree) (xs : List ℕ) → stored (bindings_of slots xs) x ≡ None → bindings_of (set slots x v) xs ≡ bindings_of slots xs
+set_kept slots x v xs h = bindings_kept slots (set slots x v) x xs (λ y e. slot_set_other slots x y v (λ z. eqb_false y x e (sym z))) h
 
 -- the same slots
-pub trail_same : (slots more : List (Option Tree)) (trail : List ℕ) → ((x : ℕ) → slot more x ≡ slot slots x) → trail_of more trail ≡ trail_of slots trail
-trail_same slots more [] same = refl
-trail_same slots more (x ∷ xs) same = λ i. (x, unwrap_or (same x i) (Variable x)) ∷ trail_same slots more xs same i
+pub bindings_same : (slots more : List (Option Tree)) (xs : List ℕ) → ((x : ℕ) → slot more x ≡ slot slots x) → bindings_of more xs ≡ bindings_of slots xs
+bindings_same slots more [] same = refl
+bindings_same slots more (x ∷ xs) same = λ i. (x, unwrap_or (same x i) (Variable x)) ∷ bindings_same slots more xs same i
 
-pub store_same : (slots more : List (Option Tree)) (trail : List ℕ) → IsStore slots trail → ((x : ℕ) → slot more x ≡ slot slots x) → IsStore more trail
-store_same slots more trail s same =
-    let kept = trail_same slots more trail same in
+pub store_same : (slots more : List (Option Tree)) (xs : List ℕ) → IsStore slots xs → ((x : ℕ) → slot more x ≡ slot slots x) → IsStore more xs
+store_same slots more xs s same =
+    let kept = bindings_same slots more xs same in
     record { agree = λ y. ap (λ l. stored l y) kept ∙ s.agree y ∙ sym (same y); made = subst AreMade (sym kept) s.made }
 
 -- a binding is kept
-module _ (slots : List (Option Tree)) (trail : List ℕ) (x : ℕ) (r : Tree) (s : IsStore slots trail) (within : x < length slots) (may : MayBind (trail_of slots trail) x r) where
-  pub trail_bound : trail_of (set slots x (Some r)) (x ∷ trail) ≡ (x, r) ∷ trail_of slots trail
-  trail_bound =
+module _ (slots : List (Option Tree)) (xs : List ℕ) (x : ℕ) (r : Tree) (s : IsStore slots xs) (within : x < length slots) (may : MayBind (bindings_of slots xs) x r) where
+  pub bindings_more : bindings_of (set slots x (Some r)) (x ∷ xs) ≡ (x, r) ∷ bindings_of slots xs
+  bindings_more =
       let term = slot_set_same slots x (Some r) within in
-      let others = set_kept slots x (Some r) trail may.free in
+      let others = set_kept slots x (Some r) xs may.free in
       λ i. (x, unwrap_or (term i) (Variable x)) ∷ others i
 
-  pub store_more : IsStore (set slots x (Some r)) (x ∷ trail)
+  pub store_more : IsStore (set slots x (Some r)) (x ∷ xs)
   store_more = record {
-    agree = λ y. ap (λ l. stored l y) trail_bound ∙ at y (x == y) refl;
-    made = subst AreMade (sym trail_bound) (may, s.made);
+    agree = λ y. ap (λ l. stored l y) bindings_more ∙ at y (x == y) refl;
+    made = subst AreMade (sym bindings_more) (may, s.made);
   }
     where
-      at : (y : ℕ) (c : Bool) → (x == y) ≡ c → (if x == y then Some r else stored (trail_of slots trail) y) ≡ slot (set slots x (Some r)) y
+      at : (y : ℕ) (c : Bool) → (x == y) ≡ c → (if x == y then Some r else stored (bindings_of slots xs) y) ≡ slot (set slots x (Some r)) y
       at y true e =
-          if_same (x == y) (Some r) (stored (trail_of slots trail) y) e
+          if_same (x == y) (Some r) (stored (bindings_of slots xs) y) e
           ∙ sym (slot_set_same slots x (Some r) within)
           ∙ ap (slot (set slots x (Some r))) (eqb-true x y e)
       at y false e =
-          if_other (x == y) (Some r) (stored (trail_of slots trail) y) e
+          if_other (x == y) (Some r) (stored (bindings_of slots xs) y) e
           ∙ s.agree y
           ∙ sym (slot_set_other slots x y (Some r) (eqb_false x y e))
 
 -- the last binding is taken back
-module _ (slots : List (Option Tree)) (trail : List ℕ) (x : ℕ) (s : IsStore slots (x ∷ trail)) (within : x < length slots) where
+module _ (slots : List (Option Tree)) (xs : List ℕ) (x : ℕ) (s : IsStore slots (x ∷ xs)) (within : x < length slots) where
   abbrev term : Tree
   term = unwrap_or (slot slots x) (Variable x)
 
-  old : (y : ℕ) → (if x == y then Some term else stored (trail_of slots trail) y) ≡ slot slots y
+  old : (y : ℕ) → (if x == y then Some term else stored (bindings_of slots xs) y) ≡ slot slots y
   old y = s.agree y
 
-  kept : trail_of (set slots x None) trail ≡ trail_of slots trail
-  kept = set_kept slots x None trail s.made.0.free
+  kept : bindings_of (set slots x None) xs ≡ bindings_of slots xs
+  kept = set_kept slots x None xs s.made.0.free
 
-  pub trail_less : trail_of (set slots x None) trail ≡ drop 1 (trail_of slots (x ∷ trail))
-  trail_less = kept
+  pub bindings_less : bindings_of (set slots x None) xs ≡ drop 1 (bindings_of slots (x ∷ xs))
+  bindings_less = kept
 
-  pub store_less : IsStore (set slots x None) trail
+  pub store_less : IsStore (set slots x None) xs
   store_less = record { agree = λ y. ap (λ l. stored l y) kept ∙ at y (x == y) refl; made = subst AreMade (sym kept) s.made.1 }
     where
-      at : (y : ℕ) (c : Bool) → (x == y) ≡ c → stored (trail_of slots trail) y ≡ slot (set slots x None) y
+      at : (y : ℕ) (c : Bool) → (x == y) ≡ c → stored (bindings_of slots xs) y ≡ slot (set slots x None) y
       at y true e =
-          ap (stored (trail_of slots trail)) (sym (eqb-true x y e))
+          ap (stored (bindings_of slots xs)) (sym (eqb-true x y e))
           ∙ s.made.0.free
           ∙ sym (slot_set_same slots x None within)
           ∙ ap (slot (set slots x None)) (eqb-true x y e)
       at y false e =
-          sym (if_other (x == y) (Some term) (stored (trail_of slots trail) y) e)
+          sym (if_other (x == y) (Some term) (stored (bindings_of slots xs) y) e)
           ∙ old y
           ∙ sym (slot_set_other slots x y None (eqb_false x y e))
 

@@ -63,10 +63,10 @@ abbrev pub binding_in : List (Option Tree) → ℕ → Binding
 binding_in slots x = (x, unwrap_or (slot slots x) (Variable x))
 
 -- the bindings of variables in slots, the last one made first
-abbrev pub trail_of : List (Option Tree) → List ℕ → List Binding
-trail_of slots xs = map (binding_in slots) xs
+abbrev pub bindings_of : List (Option Tree) → List ℕ → List Binding
+bindings_of slots xs = map (binding_in slots) xs
 
--- the variables of the trail have terms in their slots, and no others have
-pub record IsStore (slots : List (Option Tree)) (trail : List ℕ) : Type 0 where
-  pub agree : (x : ℕ) → stored (trail_of slots trail) x ≡ slot slots x
-  pub made : AreMade (trail_of slots trail)
+-- these variables have terms in their slots, and no others have
+pub record IsStore (slots : List (Option Tree)) (xs : List ℕ) : Type 0 where
+  pub agree : (x : ℕ) → stored (bindings_of slots xs) x ≡ slot slots x
+  pub made : AreMade (bindings_of slots xs)

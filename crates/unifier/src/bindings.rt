@@ -15,7 +15,8 @@ use std::marker::Model;
 ///
 /// A variable is bound to a term as the program spells it, so that a binding copies no term.
 ///
-/// Source: the binding store and the trail of Warren 1983, with structure sharing as in Boyer and Moore 1972.
+/// Source: the binding store of Warren 1983, with structure sharing as in Boyer and Moore 1972. What Warren keeps as a trail
+/// is the order of the slots.
 #[derive(Drop)]
 pub struct Bindings<'p> {
     slots: Slots<'p>,
@@ -27,13 +28,13 @@ impl<'p> Model for Bindings<'p> {
     ghost use Rattle.cti_terms.specs.Unify.{Binding};
     ghost use Rattle.cti_terms.specs.Coding.{coded_tree};
     ghost use Rattle.unifier.specs.Slots.{trees, bound};
-    ghost use Rattle.unifier.specs.Store.{trail_of, IsStore};
+    ghost use Rattle.unifier.specs.Store.{bindings_of, IsStore};
 
     ghost Value = { List Binding };
 
     ghost coded = { coded_list (coded× coded_ℕ coded_tree) };
 
-    ghost view = { λ a. trail_of (trees a.slots) (bound a.slots) };
+    ghost view = { λ a. bindings_of (trees a.slots) (bound a.slots) };
 
     ghost invariant = { λ a. IsStore (trees a.slots) (bound a.slots) };
 }
