@@ -30,7 +30,7 @@ fn cells(alloc: Global, cells: &[CertCell]) -> Result<Vec<Cell>, AllocError>
     Ok(copy)
 }
 
-/// A cube with a cell for each of `arity` arguments.
+/// A cube with a cell for each of `arity` arguments. `Shape` where there are more or fewer.
 pub fn cube(alloc: Global, arity: u32, places: &[CertCell]) -> Result<Cube, FactFault>
     ensures { AgreesKept result (cube_read arity places.now) }
 {
