@@ -25,7 +25,7 @@ previous [] x = free
 previous (s ∷ ss) zero = s.previous
 previous (s ∷ ss) (suc x) = previous ss x
 
--- so many variables, this one first and then each time the one that was bound before
+-- this variable and those that were bound before it, the later first, up to a number of them
 abbrev pub linked : List Slot → ℕ → ℕ → List ℕ
 linked slots zero x = []
 linked slots (suc n) x = x ∷ linked slots n (previous slots x)
