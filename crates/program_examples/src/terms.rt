@@ -113,7 +113,7 @@ fn program_of_fact(alloc: Global) -> Option<Program>
     }
 }
 
-/// Whether the clause of this number has so many variables and atoms.
+/// Whether this clause has `vars` variables and `atoms` atoms.
 fn has_clause(program: &Program, k: u32, vars: u32, atoms: usize) -> bool {
     if k < 1 || k > program.clauses() {
         return false;
