@@ -14,13 +14,13 @@ const HELP: &str = "cti finds and checks which queries of a pure logic program e
   cti check FILE CERT             check a certificate of the program
   cti run FILE QUERY --steps N    run a query: its first N derivations, by default 100000
   cti gen N                       make a program of N predicates, and count its modes
-  cti lex FILE                    find the modes by lists of mappings, where infer finds none
+  cti lex FILE                    find the modes by lists of mappings, not by one
   cti loop FILE QUERY --depth D   look for a loop of at most D clauses, by default 8
   cti session FILE                do the edits of FILE, and print the modes they ask for
   Options may be left out.
 
 Exit status: 0 done, or the certificate is valid; 1 it is not valid, or no loop was
-found; 2 the words are no command; 3 a text was refused; 4 a file could not be
+found; 2 the words are not a command; 3 a text was refused; 4 a file could not be
 loaded; 5 standard output failed; 6 out of memory; 7 the search was stopped;
 8 a value was too large.
 

@@ -39,7 +39,7 @@ impl FileCause {
         match self {
             FileCause::Missing =>
                 "check the spelling of the name, and the directory that you are in",
-            FileCause::Exchanged => "the file comes before the query: the two may be exchanged",
+            FileCause::Exchanged => "the file comes before the query: the two may be swapped",
             FileCause::Denied => "ask for permission to read it",
             FileCause::Directory => "name a file in it",
             FileCause::Failed => "try again, and check that the disk works",

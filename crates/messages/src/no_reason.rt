@@ -49,14 +49,16 @@ impl NoReason {
             NoReason::Missing => "a fact is missing here",
             NoReason::Extra => "this fact may not stand here",
             NoReason::Shape => "this fact has a list of a wrong length or a number out of range",
-            NoReason::SizeRow => "the multipliers do not show this size row",
-            NoReason::Measure => "the measure does not fall as this line says",
+            NoReason::SizeRow =>
+                "the multipliers do not show this size row, or a built-in predicate does not have it",
+            NoReason::Measure =>
+                "the measure does not fall as this line says, or is not 0 where nothing recurses",
             NoReason::Ground =>
-                "the grounds of this predicate lack a row that one of its clauses gives",
+                "the grounds of this predicate lack a row that one of its clauses gives, or that it has as a built-in",
             NoReason::Precondition => "the pre rows of this predicate break their rule",
             NoReason::Mode => "a mode on this line is not admitted by the pre rows",
             NoReason::Refutation => "this line refutes nothing",
-            NoReason::Wide => "this line needs a number above 2^127 - 1",
+            NoReason::Wide => "this line needs a number above 2^127 - 1 in absolute value",
         }
     }
 
@@ -83,7 +85,7 @@ impl NoReason {
             }
             NoReason::Mode => "drop the mode, or add the mapping and the pre rows that admit it",
             NoReason::Refutation => {
-                "each row has to be at least 0 at each point, and the measure may fall at none of them"
+                "each row has to be at least 0 at each point, some T has to be above 0, and summed over all points no coefficient or offset may weigh more in the heads than in the calls"
             }
             NoReason::Wide => "use smaller numbers",
         }

@@ -60,9 +60,9 @@ impl RefusalKind {
     /// What it is shown as.
     pub(crate) fn sentence(self) -> &'static str {
         match self {
-            RefusalKind::BadByte => "this byte begins no token",
+            RefusalKind::BadByte => "this byte cannot stand here",
             RefusalKind::Unclosed => "this quoted item or comment has no end",
-            RefusalKind::BadEscape => "a backslash in this quoted item begins no escape",
+            RefusalKind::BadEscape => "a backslash here begins no escape",
             RefusalKind::Float => "floating-point numbers are not read",
             RefusalKind::WideNumber => "this integer is above 2^127 - 1",
             RefusalKind::Unexpected => "the clause cannot go on like this",
@@ -92,7 +92,7 @@ impl RefusalKind {
                 "look for a missing end dot, comma, bracket or pair of parentheses"
             }
             RefusalKind::Deep =>
-                "nest less: at most 1,000 brackets, list elements and operators may open before a term",
+                "nest less: at most 1,000 brackets, list elements and operators may be open before a term, and what stands before an infix operator may have at most 999 levels",
             RefusalKind::Long =>
                 "split it: a program or a query has at most 1,048,576 bytes, a certificate 16,777,216",
             RefusalKind::Arity => {

@@ -99,7 +99,8 @@ impl<'a> Trouble<'a> {
             Trouble::File(_, cause) => cause.sentence(),
             Trouble::Output(_) => "standard output failed after {} bytes",
             Trouble::Memory => "out of memory",
-            Trouble::Overflow => "the search ended at a goal with a value above 2^127 - 1",
+            Trouble::Overflow =>
+                "the search ended at a goal with a value above 2^127 - 1 in absolute value",
             Trouble::NoLoop => "no loop was found, which does not say that the query ends",
             Trouble::ManyDerivations => {
                 "the first 100,000 derivations have no loop, and there are more"
@@ -130,7 +131,7 @@ impl<'a> Trouble<'a> {
             }
             Trouble::Memory => "nothing was written: allow more memory, or split the program",
             Trouble::Overflow => {
-                "the answers before it were written: it is the first goal of the last step that is counted, so look there with --steps"
+                "the answers before it were written; it is the first goal that the last counted step leaves, or that of the query if no step is counted"
             }
             Trouble::NoLoop => {
                 "a greater --depth, up to 12, looks further; `cti run` with --steps 20 shows how the search goes"

@@ -41,7 +41,7 @@ impl<'a> WordFault<'a> {
             Self::NoFile(..) => "`cti {}` needs the word FILE before `{}`",
             Self::Extra(_) => "`{}` is one word too many",
             Self::BareValue(..) => "`{}` is one word too many: write `{} {}`",
-            Self::OneWord(..) => "`cti {}` takes the one word {}: `{}` is too many",
+            Self::OneWord(..) => "`cti {}` takes one word, {}: `{}` is one too many",
             Self::NoValue(_) => "{} needs {}",
             Self::BadValue(..) => "`{}` is not {}",
             Self::BadCount(_) => "`{}` is not a number of predicates",

@@ -22,7 +22,7 @@ impl ByteMistake {
     pub(crate) fn sentence(self) -> &'static str {
         match self {
             Self::ByteOrderMark => "save the file without the byte order mark at its beginning",
-            Self::BackQuote => "write \"a\" for what stands in back quotes",
+            Self::BackQuote => "write double quotes for back quotes: \"a\"",
             Self::NotText => "save the file as UTF-8",
             Self::Binary =>
                 "this is not a text file: name the file of a program, and save it as UTF-8",

@@ -48,9 +48,9 @@ impl<'a> FactMistake<'a> {
             Self::EmptyLine => "leave out the empty line",
             Self::CarriageReturn =>
                 "this line ends with a carriage return: end each line with a newline alone",
-            Self::NoNewline => "this line, the last, has no newline at its end",
+            Self::NoNewline => "this last line has no newline at its end",
             Self::CutOff =>
-                "the certificate is cut off in this line, its last: write it again with `cti infer`",
+                "the certificate is cut off in its last line: write it again with `cti infer`",
             Self::Negative => "no number of this fact may be negative",
             Self::ModeOrder(_) => "the numbers of a mode ascend: `{}`",
             Self::Name(_) => "no fact of a certificate has the name `{}`",
@@ -62,10 +62,9 @@ impl<'a> FactMistake<'a> {
             Self::LeadingZero(_) => "leave out the zeros before a number: write `{}`",
             Self::Argument => "the arguments of a mode are numbered from 1",
             Self::Mode => "each mode is a list of its own, as in `[[1],[2,3]]`",
-            Self::Number(_) =>
-                "`{}` counts clauses, calls, mappings, rows, steps and points from 1",
+            Self::Number(_) => "numbers and counts in `{}` begin at 1",
             Self::Cell => "each argument of a row is `0`, `1` or `x`",
-            Self::Parts { .. } => "`{}` has {} parts, and here {}",
+            Self::Parts { .. } => "`{}`: wrong number of parts, {} wanted and {} found",
             Self::NormVersion => "`norm` stands in version 2: begin with `cti(2).`",
             Self::NoNorm => "in version 2 the second line is `norm(term).` or `norm(list).`",
             Self::Order(..) => "`{}` lines stand before `{}` lines",

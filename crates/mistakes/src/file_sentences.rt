@@ -24,7 +24,7 @@ impl<'a> FileMistake<'a> {
     pub(crate) fn sentence(self) -> &'static str {
         match self {
             Self::Query { .. } => "run it with `cti run {} {}`",
-            Self::Exchanged => "the first file is a certificate: the two files may be exchanged",
+            Self::Exchanged => "the first file is a certificate: the two files may be swapped",
             Self::NoProgram => "the first file is a certificate: name the program there",
             Self::OtherProgram { .. } =>
                 "the program's first predicate is `{}/{}`, and the certificate's is `{}`",

@@ -43,7 +43,7 @@ impl GoalMistake {
             Self::NotOperator =>
                 "`not` is not an operator here: write `(G,fail ; true)` for `not G`",
             Self::AllSolutions =>
-                "write `(G,fail ; true)` for `findall(T,G,L)` and its like: their lists stay unknown",
+                "write `(G,fail ; true)` for `findall(T,G,L)` and the like: their lists stay unknown",
             Self::Test => "leave it out: modes without it hold with it",
             Self::Output => "leave it out: what is written does not change whether a query ends",
             Self::Call => "write the goal itself: goals are not taken from terms",

@@ -20,7 +20,7 @@ impl QueryMistake {
             Self::Empty => "the query is empty",
             Self::Prompt => "leave out `?-`",
             Self::Second => "a query ends at its dot: run what stands after it by itself",
-            Self::FileName => "a query stands here, and this is the name of a file",
+            Self::FileName => "a query belongs here, and this is the name of a file",
             Self::Clause => "a query is not a clause: write only its goals",
             Self::Goal =>
                 "leave it out: a query calls predicates of the program, `=`, `is` and comparisons of integers",

@@ -15,9 +15,16 @@ pub enum Cause {
     Measure,
     /// No measure falls at this many pairs, the first of which is this fact.
     Refuted { start: usize, points: u64 },
+}
+
+/// Why not all measures of a component were looked for.
+#[derive(Clone, Copy, PartialEq, Eq)]
+pub enum Limit {
+    /// They were, as far as the facts say.
+    None,
     /// It has this many argument positions, more than 12.
     Large(u64),
-    /// The search was given up.
+    /// A search was given up.
     Blown,
 }
 
@@ -32,6 +39,8 @@ pub struct Causes {
     pub grounds: FactRuns,
     /// By component.
     causes: Vec<Cause>,
+    /// By component.
+    limits: Vec<Limit>,
     /// How many points the refutation has that the next point begins.
     points: u64,
     /// How many predicates were looked for by their texts.
@@ -49,6 +58,7 @@ impl Drop for Causes {
             terminates: _,
             grounds: _,
             causes: _,
+            limits: _,
             points: _,
             looked: _,
         } = self;
@@ -68,6 +78,7 @@ impl Causes {
             terminates: Vec::new(alloc),
             grounds: FactRuns::new(alloc, listed.table.preds.len())?,
             causes: vec![in alloc; Cause::None; listed.table.preds.len()]?,
+            limits: vec![in alloc; Limit::None; listed.table.preds.len()]?,
             points: 0,
             looked: 0,
         };
@@ -98,19 +109,19 @@ impl Causes {
                 );
             }
             Fact::Large { pred, positions } => {
-                self.note_named(listed, pred, Cause::Large(*positions));
+                self.note_limit_named(listed, pred, Limit::Large(*positions));
             }
-            Fact::Blown { pred, .. } => self.note_named(listed, pred, Cause::Blown),
+            Fact::Blown { pred, .. } => self.note_limit_named(listed, pred, Limit::Blown),
             _ => {}
         }
         Ok(())
     }
 
-    /// Notes what is said of the component of a predicate that has this text.
-    fn note_named(&mut self, listed: &Listed, text: &PredText, cause: Cause) {
+    /// Notes why not all measures were looked for in the component of a predicate that has this text.
+    fn note_limit_named(&mut self, listed: &Listed, text: &PredText, limit: Limit) {
         if self.looks() {
             let found = listed.pred_of(text.name.as_slice(), text.arity);
-            self.note_found(&listed.table, found, cause);
+            self.note_limit(&listed.table, found, limit);
         }
     }
 
@@ -129,7 +140,7 @@ impl Causes {
     }
 
     /// Notes what is said of the component of a predicate, where nothing was said before.
-    pub fn note_found(&mut self, table: &Table, pred: Option<u32>, cause: Cause) {
+    fn note_found(&mut self, table: &Table, pred: Option<u32>, cause: Cause) {
         let Some(pred) = pred else {
             return;
         };
@@ -137,6 +148,18 @@ impl Causes {
             && *known == Cause::None
         {
             *known = cause;
+        }
+    }
+
+    /// Notes why not all measures of the component of a predicate were looked for, where nothing was said before.
+    pub fn note_limit(&mut self, table: &Table, pred: Option<u32>, limit: Limit) {
+        let Some(pred) = pred else {
+            return;
+        };
+        if let Some(known) = self.limits.get_mut(table.component_of(pred) as usize)
+            && *known == Limit::None
+        {
+            *known = limit;
         }
     }
 
@@ -154,6 +177,14 @@ impl Causes {
             .get(component as usize)
             .copied()
             .unwrap_or(Cause::None)
+    }
+
+    /// Why not all measures of a component were looked for.
+    pub fn limit_of(&self, component: u32) -> Limit {
+        self.limits
+            .get(component as usize)
+            .copied()
+            .unwrap_or(Limit::None)
     }
 
     /// Whether each predicate has its modes.

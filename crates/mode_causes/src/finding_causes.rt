@@ -1,6 +1,6 @@
 //! Which call is to blame for a predicate without a mode.
 
-use crate::cause::{Cause, Causes};
+use crate::cause::{Cause, Causes, Limit};
 use crate::culprit::Culprit;
 use crate::lacking::{CallAt, Found};
 use crate::listed::{Listed, Step};
@@ -33,7 +33,7 @@ pub enum Why {
     Blown,
     /// It calls this predicate, which has no mode.
     Callee(u32),
-    /// This call lacks variables, whatever arguments of a query are known.
+    /// This call lacks variables, even if all arguments of the query are known.
     Lacks(CallAt),
     /// The same, where nothing is known of the variables.
     Needs(u32),
@@ -193,6 +193,15 @@ impl<'p, 'f> View<'p, '_, 'f> {
         }
     }
 
+    /// A reason; and where it says that all measures were looked at and some were not, what kept them from it.
+    fn unless_given_up(self, component: u32, why: Why) -> Why {
+        match (why, self.causes.limit_of(component)) {
+            (Why::Unmet, Limit::Large(positions)) => Why::Large(positions),
+            (Why::Unmet, Limit::Blown) => Why::Blown,
+            (why, _) => why,
+        }
+    }
+
     /// The case of a predicate whose component has a measure, or needs none, and yet no mode.
     fn unmet_case(self, alloc: Global, pred: u32, has_measure: bool) -> Result<Case, AllocError> {
         let component = self.listed.table.component_of(pred);
@@ -206,7 +215,11 @@ impl<'p, 'f> View<'p, '_, 'f> {
             return Ok(Case { why, at });
         }
         let found = self.lacking_in(alloc, component)?;
-        Ok(self.lacking_case(pred, &found, is_recursive))
+        let case = self.lacking_case(pred, &found, is_recursive);
+        Ok(Case {
+            why: self.unless_given_up(component, case.why),
+            at: case.at,
+        })
     }
 
     /// Whether a clause has such a step.
@@ -280,17 +293,18 @@ impl<'p, 'f> View<'p, '_, 'f> {
 
     /// Why a predicate has no mode.
     pub fn case_of(self, alloc: Global, pred: u32) -> Result<Case, AllocError> {
-        let cause = self
-            .causes
-            .of_component(self.listed.table.component_of(pred));
-        let at = self.first_clause(pred);
-        let why = match cause {
-            Cause::Refuted { start, points } => return Ok(self.case_at(start, points)),
-            Cause::Large(positions) => Why::Large(positions),
-            Cause::Blown => Why::Blown,
-            Cause::Measure => return self.unmet_case(alloc, pred, true),
-            Cause::None => return self.unmet_case(alloc, pred, false),
+        let component = self.listed.table.component_of(pred);
+        let why = match (
+            self.causes.of_component(component),
+            self.causes.limit_of(component),
+        ) {
+            (Cause::Refuted { start, points }, _) => return Ok(self.case_at(start, points)),
+            (Cause::Measure, _) => return self.unmet_case(alloc, pred, true),
+            (Cause::None, Limit::Large(positions)) => Why::Large(positions),
+            (Cause::None, Limit::Blown) => Why::Blown,
+            (Cause::None, Limit::None) => return self.unmet_case(alloc, pred, false),
         };
+        let at = self.first_clause(pred);
         Ok(Case { why, at })
     }
 }

@@ -20,7 +20,7 @@ mod table;
 mod truths;
 mod walk;
 
-pub use cause::{Cause, Causes};
+pub use cause::{Cause, Causes, Limit};
 pub use culprit::Culprit;
 pub use finding_causes::{Case, View, Why};
 pub use lacking::CallAt;

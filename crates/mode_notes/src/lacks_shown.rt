@@ -104,7 +104,7 @@ fn names_shown(
     let names = lacked.names.as_str();
     let verb = if lacked.count == 1 { "is" } else { "are" };
     format!(in alloc;
-        "{names} {verb} not known to be {known} there{after}, whatever arguments of a query are"
+        "{names} {verb} not known to be {known} there{after}, even if all arguments of the query are {known}"
     )
 }
 

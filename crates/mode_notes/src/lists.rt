@@ -1,6 +1,6 @@
 //! Certificates of lists of mappings.
 
-use mode_causes::{Cause, Causes, Listed};
+use mode_causes::{Cause, Causes, Limit, Listed};
 use std::alloc::{AllocError, Global};
 
 /// How a certificate of lists begins.
@@ -78,7 +78,7 @@ pub(crate) fn take_lists(causes: &mut Causes, listed: &Listed, certificate: &[u8
             && causes.looks()
         {
             let found = pred_of(certificate, pred);
-            causes.note_found(&listed.table, found, Cause::Blown);
+            causes.note_limit(&listed.table, found, Limit::Blown);
         }
     }
 }

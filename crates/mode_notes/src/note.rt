@@ -5,7 +5,7 @@ use thiserror::Error;
 /// Why a predicate has no mode, as it is said. Predicates stand as `NAME/ARITY` in back quotes, or as a disjunction.
 #[derive(Clone, Copy, Debug, PartialEq, Eq, Error)]
 pub enum Note<'a> {
-    #[error("{pred} has no mode: nothing known of {arguments} gets smaller from this clause's head to this call")]
+    #[error("{pred} has no mode: no known size of {arguments} gets smaller from the head of this clause to this call")]
     OneCall {
         pred: &'a str,
         /// Its own ones, or those of another predicate of its group.

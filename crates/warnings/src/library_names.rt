@@ -120,13 +120,11 @@ pub(crate) const OF_GOALS: [NameArity; 78] = [
 ];
 
 /// Those that end, bind nothing and only fail or not.
-pub(crate) const TESTS: [NameArity; 20] = [
+pub(crate) const TESTS: [NameArity; 18] = [
     ("acyclic_term", 1),
     ("at_end_of_stream", 0),
     ("at_end_of_stream", 1),
     ("callable", 1),
-    ("char_type", 2),
-    ("code_type", 2),
     ("cyclic_term", 1),
     ("exists_directory", 1),
     ("exists_file", 1),
@@ -144,7 +142,7 @@ pub(crate) const TESTS: [NameArity; 20] = [
 ];
 
 /// Those that end, and bind what is not known here.
-pub(crate) const UNKNOWN: [NameArity; 64] = [
+pub(crate) const UNKNOWN: [NameArity; 66] = [
     ("absolute_file_name", 2),
     ("atom_number", 2),
     ("atom_string", 2),
@@ -152,6 +150,8 @@ pub(crate) const UNKNOWN: [NameArity; 64] = [
     ("atomic_list_concat", 2),
     ("atomic_list_concat", 3),
     ("atomics_to_string", 2),
+    ("char_type", 2),
+    ("code_type", 2),
     ("compare", 3),
     ("compound_name_arguments", 3),
     ("compound_name_arity", 3),

@@ -7,7 +7,7 @@ use thiserror::Error;
 pub enum Sentence<'a> {
     #[error("this is a certificate, and it is read as a program of facts")]
     Certificate,
-    #[error("`{name}/{arity}` is called and has no clause: here it always fails, so the modes of `{caller}/{inputs}` and of its callers say nothing of a program that has it")]
+    #[error("`{name}/{arity}` is called and has no clause: here it always fails, so the modes of `{caller}/{inputs}` and its callers say nothing about a program that defines it")]
     NoClause {
         name: &'a str,
         arity: u32,
@@ -20,13 +20,13 @@ pub enum Sentence<'a> {
         name: &'a str,
         arity: u32,
     },
-    #[error("`{name}/{arity}` is called and has no clause, and `{name}/{other}` has")]
+    #[error("`{name}/{arity}` is called and has no clause, but `{name}/{other}` has one")]
     OtherArity {
         name: &'a str,
         arity: u32,
         other: u32,
     },
-    #[error("`{name}/{arity}` has no value here, so that this goal always fails")]
+    #[error("`{name}/{arity}` has no value here, so this goal always fails")]
     NoValue {
         name: &'a str,
         arity: u32,
