@@ -81,7 +81,7 @@ fn number_before(edit: &Edit<'_>, before: &[Position], position: Position) -> u3
     0
 }
 
-/// The same for each of these. 2^32 and more positions have no memory.
+/// The same for each of these. With 2^32 - 1 positions or more, before or after, it is out of memory.
 pub(crate) fn numbers_before(
     alloc: Global,
     edit: &Edit<'_>,

@@ -124,7 +124,7 @@ impl Reordered<'_> {
         Ok(())
     }
 
-    /// The mappings in the order of their supports: the shorter ones first.
+    /// The mappings in the order of their supports: the shorter ones first, those of one length in lexicographic order.
     fn ordered(&self, alloc: Global, mappings: &[Mapping]) -> Result<Sequence<Mapping>, AllocError>
         requires reordered { IsReordered self.now }
         requires places { AllByRecursion (λ m. HasPlaces self.now m.measures) mappings.now }

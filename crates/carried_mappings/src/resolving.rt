@@ -21,7 +21,7 @@ use std::alloc::{AllocError, Global};
 use term_size::Norm;
 use termination_model::Sizes;
 
-/// Nothing, where no mappings are searched.
+/// Nothing, where no mappings are searched for.
 fn nothing(alloc: Global) -> Found
     ensures { result ≡ nothing }
 {
@@ -163,7 +163,8 @@ fn resolve_sources<N: Norm>(
 
 /// What is found of the mappings of a program's components after an edit, from what was found before it.
 ///
-/// A component that stands for an old one has what was found of that one, also where its members stand in another order.
+/// A component that stands for an old one has the mappings of that one, in whatever order its members stand; with them in
+/// the same order it has all that was found of that one.
 /// Each other recursive component is searched, and of one that is not recursive nothing is found. `sizes` are the size
 /// rows after the edit, as `resolve_sizes` gives them from `old`.
 pub fn resolve_mappings<'a, D: Domain, N: Norm>(

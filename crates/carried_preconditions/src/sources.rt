@@ -8,11 +8,11 @@ use solved_program::EditClauses;
 pub(crate) struct PreconditionSources<'a, N> {
     pub(crate) clauses: &'a EditClauses<'a>,
     pub(crate) norm: &'a N,
-    /// For each new predicate one more than the number of its component.
+    /// For each predicate after the edit one more than the number of its component.
     pub(crate) ranks: &'a [u32],
-    /// For each new predicate the clauses that have it in their heads.
+    /// For each predicate after the edit the clauses that have it in their heads.
     pub(crate) heads: &'a ClauseLists,
-    /// For each new predicate the clauses that have it in their bodies.
+    /// For each predicate after the edit the clauses that have it in their bodies.
     pub(crate) users: &'a ClauseLists,
     /// Ground rows and mappings of the new program.
     pub(crate) inputs: &'a Inputs<'a>,

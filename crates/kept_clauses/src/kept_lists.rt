@@ -8,7 +8,7 @@ ghost use Rattle.kept_clauses.specs.KeptLists.{kept_by_insertion, kept_by_remova
 
 use std::alloc::{AllocError, Global};
 
-/// The numbers of this many elements.
+/// The numbers of `count` elements, from 1 on: all are kept.
 #[tactic(auto, using(crate::proofs::KeptListLaws::from_more))]
 pub fn all_kept(alloc: Global, count: usize) -> Result<Vec<Option<u32>>, AllocError>
     requires { count < 2 ^ 32 }
@@ -21,7 +21,8 @@ pub fn all_kept(alloc: Global, count: usize) -> Result<Vec<Option<u32>>, AllocEr
     Ok(kept)
 }
 
-/// What is kept of a list of this many clauses where one is put in at a place.
+/// What is kept of a list of `count` clauses where one is put in after the first `at`: for each clause of the new list its
+/// number before, from 1 on, and none for the new one.
 pub fn kept_with(alloc: Global, count: usize, at: usize) -> Result<Vec<Option<u32>>, AllocError>
     requires few { count < 2 ^ 32 }
     requires within { at ≤ count }
@@ -40,7 +41,8 @@ pub fn kept_with(alloc: Global, count: usize, at: usize) -> Result<Vec<Option<u3
     Ok(kept)
 }
 
-/// What is kept of a list of this many clauses where one is taken out.
+/// What is kept of a list of `count` clauses where the one after the first `at` is taken out: for each clause of the new
+/// list its number before, from 1 on.
 pub fn kept_without(alloc: Global, count: usize, at: usize) -> Result<Vec<Option<u32>>, AllocError>
     requires few { count < 2 ^ 32 }
     requires within { at < count }

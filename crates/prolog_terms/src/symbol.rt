@@ -1,4 +1,4 @@
-//! Tokens as the machine takes them.
+//! Tokens as the parser takes them.
 
 use crate::natural::Natural;
 use cti_terms::Name;
@@ -12,7 +12,7 @@ pub struct Known {
     pub cell: Name,
 }
 
-/// A token as the machine takes it, with the place of its first byte where a term may begin there.
+/// A token as the parser takes it, with the place of its first byte where a term may begin there.
 pub enum Symbol {
     /// A variable, by its number in the clause.
     Var { at: u32, number: u32 },

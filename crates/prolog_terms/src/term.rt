@@ -6,8 +6,8 @@ use cti_terms::Name;
 #[cycle(read_terms)]
 #[derive(Drop)]
 pub enum ReadShape {
-    /// A variable, by its number in its clause: they are numbered from 0 in the order of their first occurrence, and each `_` is
-    /// a variable of its own.
+    /// A variable, by its number in its clause. Variables are numbered from 0 in the order of their first occurrence, and
+    /// each `_` is a variable of its own.
     Var(u32),
     /// An integer of absolute value at most 2^127 - 1.
     Int(i128),

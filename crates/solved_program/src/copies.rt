@@ -1,4 +1,4 @@
-//! Copies.
+//! Copies of steps.
 
 ghost use Rattle.std.specs.Prelude.{◌≡◌, IfOk};
 ghost use Rattle.numeric_model.specs.States.{plain_step};

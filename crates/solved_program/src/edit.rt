@@ -6,11 +6,14 @@ use cti_terms::Program;
 /// A program before and after an edit, each with its components, and which of its clauses were kept.
 #[derive(Clone, Copy)]
 pub struct Edit<'a> {
+    /// The program before the edit.
     pub before: &'a Program,
+    /// Its components.
     pub components_before: &'a Components,
+    /// The program after the edit.
     pub after: &'a Program,
+    /// Its components.
     pub components: &'a Components,
-    /// For each clause of the new program the number of the same clause in the old one, if it was kept. Clauses count
-    /// from 1.
+    /// For each clause after the edit the number of the same clause before it, if it was kept. Clauses count from 1.
     pub kept: &'a [Option<u32>],
 }

@@ -43,7 +43,8 @@ impl EditClauses<'_> {
         }
     }
 
-    /// The old component that the component `c` stands for, if it stands, where these predicates have stayed so far.
+    /// The old component that the component `c` stands for, if it stands, where the predicates with a mark have
+    /// what they had.
     pub fn standing(&self, c: u32, stayed: &[bool]) -> Option<u32>
         requires clauses { AreEditClauses self.now }
         requires each { length stayed.now ≡ length self.now.edit.now.after.now.preds }

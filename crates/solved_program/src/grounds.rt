@@ -33,7 +33,7 @@ fn carried_set(edit: &Edit<'_>, old: &[Diagram], none: Diagram, pred: PredId) ->
     }
 }
 
-/// For each predicate after an edit the diagram that it had, if it was there, and else this one.
+/// For each predicate after an edit the diagram that it had, if it was there, and else `none`.
 pub fn carried_sets(
     alloc: Global,
     edit: &Edit<'_>,
@@ -70,9 +70,9 @@ fn carried_grounds(
 pub(crate) struct GroundSources<'a, N> {
     pub(crate) clauses: &'a EditClauses<'a>,
     pub(crate) norm: &'a N,
-    /// For each new predicate the clauses that have it in their heads.
+    /// For each predicate after the edit the clauses that have it in their heads.
     pub(crate) heads: &'a ClauseLists,
-    /// For each new predicate the clauses that have it in their bodies.
+    /// For each predicate after the edit the clauses that have it in their bodies.
     pub(crate) users: &'a ClauseLists,
     /// The diagrams from before the edit.
     pub(crate) old: &'a [Diagram],

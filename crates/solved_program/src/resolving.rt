@@ -60,7 +60,8 @@ fn take_part(
 }
 
 impl Sources<'_> {
-    /// The old component that the component `c` stands for, if it stands, where these predicates have stayed so far.
+    /// The old component that the component `c` stands for, if it stands, where the predicates with a mark have
+    /// what they had.
     pub fn standing(&self, c: u32, stayed: &[bool]) -> Option<u32>
         requires sources { AreSources self.now }
         requires each { length stayed.now ≡ length self.now.edit.now.after.now.preds }

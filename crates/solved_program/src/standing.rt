@@ -16,7 +16,7 @@ pub(crate) struct Compared<'a> {
     pub(crate) before: u32,
     /// The component after it.
     pub(crate) after: u32,
-    /// For each new predicate whether what was found of it has stayed.
+    /// For each predicate after the edit whether what was found of it has stayed.
     pub(crate) stayed: &'a [bool],
 }
 
