@@ -3,11 +3,12 @@
 use crate::call::Call;
 use crate::question::Question;
 use messages::{
-    FileCause, NoReason, RefusalKind, Texts, Trouble, Words, call_message, message, push_help,
+    FileCause, NoReason, RefusalKind, Texts, Trouble, call_message, message, push_help,
 };
 use mode_notes::{call_notes, check_note, norm_note, program_notes};
 use std::alloc::{AllocError, Global};
 use warnings::{program_warnings, query_warnings, warn};
+use word_faults::Words;
 
 /// The names of the program and of the certificate that are warned of or noted.
 const PROGRAM: &str = "a.pl";

@@ -1,8 +1,9 @@
 //! The call that a case is about.
 
-use messages::{Ending, Words};
+use messages::Ending;
 use std::alloc::{AllocError, Global};
 use std::collections::BTreeMap;
+use word_faults::Words;
 
 /// The words of a call, the texts that it is about, its status, and what it wrote.
 pub(crate) struct Call {

@@ -8,10 +8,11 @@ use crate::refusal_kind::RefusalKind;
 use crate::texts::Texts;
 use crate::told::Subject;
 use crate::trouble::Trouble;
+use certificate_mistakes::{beginning_mistake, line_mistake, mode_mistake, standing_mistake};
+use mistake_sentences::{FactMistake, FileMistake, Mistake};
 use mistakes::{
-    FactMistake, FileMistake, Mistake, argument_mistake, beginning_mistake, byte_mistake,
-    edit_mistake, goal_mistake, head_mistake, is_certificate, line_mistake, mode_mistake,
-    program_mistake, query_in_file, standing_mistake, variable_mistake,
+    argument_mistake, byte_mistake, edit_mistake, goal_mistake, head_mistake, is_certificate,
+    program_mistake, query_in_file, variable_mistake,
 };
 use std::alloc::{AllocError, Global};
 

@@ -3,7 +3,7 @@
 use crate::texts::Texts;
 use crate::told::Subject;
 use crate::trouble::Trouble;
-use crate::words::Words;
+use word_faults::Words;
 
 /// The exit statuses that a message goes with, but for that of a file.
 const NO: u8 = 1;

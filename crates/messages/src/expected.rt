@@ -2,12 +2,13 @@
 
 use crate::scan::{Scan, is_symbol};
 use crate::told::Subject;
-use mistakes::{
-    Bracket, ClauseMistake, Gap, GoalMistake, HeadMistake, Mistake, OperatorMistake, QueryMistake,
-    gap_mistake, is_closed_later, percent_mistake, start_mistake, term_mistake,
+use mistake_sentences::{
+    ClauseMistake, GoalMistake, HeadMistake, Mistake, OperatorMistake, QueryMistake,
 };
+use mistakes::{gap_mistake, is_closed_later, percent_mistake, start_mistake, term_mistake};
 use std::alloc::{AllocError, Global};
 use std::fmt;
+use token_search::{Bracket, Gap};
 
 /// What was expected where a clause cannot go on.
 #[derive(Clone, Copy)]

@@ -4,10 +4,10 @@ use crate::ending::Ending;
 use crate::file_cause::FileCause;
 use crate::telling::message;
 use crate::trouble::Trouble;
-use crate::words::Words;
 use std::alloc::{AllocError, Global};
 use std::fs;
 use std::rt::Files;
+use word_faults::Words;
 
 /// The exit status where a file could not be loaded.
 const FILE_FAULT: u8 = 4;

@@ -7,9 +7,6 @@
 #![tactic(auto)]
 
 mod advising;
-mod asked;
-mod command;
-mod command_option;
 mod ending;
 mod excerpt;
 mod expected;
@@ -23,12 +20,7 @@ mod telling;
 mod texts;
 mod told;
 mod trouble;
-mod word_fault;
-mod words;
 
-pub use asked::Asked;
-pub use command::Command;
-pub use command_option::CommandOption;
 pub use ending::Ending;
 pub use excerpt::{push_excerpt, push_shown};
 pub use explaining::{call_message, explain};
@@ -40,5 +32,3 @@ pub use telling::{message, push_help};
 pub use texts::Texts;
 pub use told::{Subject, ToldNo, ToldRefusal};
 pub use trouble::Trouble;
-pub use word_fault::WordFault;
-pub use words::Words;

@@ -1,7 +1,7 @@
 //! A quick look over a text: which brackets are open, and whether a term or an operator stands last.
 
-use mistakes::Bracket;
 use std::alloc::{AllocError, Global};
+use token_search::Bracket;
 
 /// What a byte belongs to.
 #[derive(Clone, Copy)]

@@ -1,15 +1,13 @@
 //! What a call has to say, in one line.
 
-use crate::asked::Asked;
 use crate::file_cause::FileCause;
 use crate::no_reason::NoReason;
 use crate::place::Place;
 use crate::refusal_kind::RefusalKind;
 use crate::told::{Subject, ToldNo, ToldRefusal};
-use crate::word_fault::WordFault;
-use crate::words::Words;
-use mistakes::{Sentence, Shown};
+use mistake_sentences::{Sentence, Shown};
 use std::fmt::{self, Display};
+use word_faults::{Asked, WordFault, Words};
 
 /// Why a call did not do what was asked for, or what its answer does not say. It is shown as the first line of the
 /// message.

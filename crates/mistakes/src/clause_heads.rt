@@ -1,12 +1,8 @@
 //! Heads of clauses that are none.
 
-use crate::clause_sentences::ClauseMistake;
-use crate::head_sentences::HeadMistake;
-use crate::mistake::Mistake;
-use crate::operator_sentences::OperatorMistake;
-use crate::searching::beside;
-use crate::word_reader::{Word, WordReader, shown_name};
+use mistake_sentences::{ClauseMistake, HeadMistake, Mistake, OperatorMistake};
 use prolog_tokens::TokenKind;
+use token_search::{Word, WordReader, beside, shown_name};
 
 /// That a variable has the place of a head.
 fn variable_mistake<'a>(first: Word<'a>, second: Word<'_>) -> Option<Mistake<'a>> {

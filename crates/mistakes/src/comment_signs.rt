@@ -1,8 +1,7 @@
 //! Comments that were meant for something else.
 
-use crate::gap::is_word;
-use crate::operator_sentences::OperatorMistake;
-use crate::searching::{after_last, before_byte};
+use mistake_sentences::OperatorMistake;
+use token_search::{after_last, before_byte, is_word};
 
 /// The last line of a text that is not empty.
 fn last_line(text: &[u8]) -> &[u8] {

@@ -1,10 +1,9 @@
 //! How many arguments and variables there are.
 
-use crate::clause_sentences::ClauseMistake;
-use crate::mode_numbers::MOST_ARGUMENTS;
-use crate::word_reader::{WordReader, shown_name};
+use mistake_sentences::{ClauseMistake, MOST_ARGUMENTS};
 use prolog_tokens::TokenKind;
 use std::alloc::{AllocError, Global};
+use token_search::{WordReader, shown_name};
 
 /// The most variables of a clause.
 const MOST_VARIABLES: u64 = 48;

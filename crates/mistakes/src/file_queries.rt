@@ -1,8 +1,7 @@
 //! Queries that stand in a program's file.
 
-use crate::file_sentences::FileMistake;
-use crate::shell_word::ShellWord;
-use crate::word_reader::{WordReader, shown_name};
+use mistake_sentences::{FileMistake, ShellWord};
+use token_search::{WordReader, shown_name};
 
 /// Where the clause at the beginning of a text has its dot.
 fn end_of(text: &[u8]) -> Option<usize> {

@@ -1,9 +1,7 @@
 //! Operators of other languages.
 
-use crate::goal_sentences::GoalMistake;
-use crate::mistake::Mistake;
-use crate::operator_sentences::OperatorMistake;
-use crate::searching::beside;
+use mistake_sentences::{GoalMistake, Mistake, OperatorMistake};
+use token_search::beside;
 
 /// Words and symbols that other languages have between a head and its conditions.
 const NECKS: [&str; 8] = ["=>", "<=", "<--", "<==", ":--", "?-", "if", "when"];

@@ -1,14 +1,12 @@
 //! Places after a whole term where a clause cannot go on.
 
-use crate::clause_sentences::ClauseMistake;
 use crate::foreign_operators::foreign_mistake;
-use crate::gap::{Bracket, Gap, first_name, first_symbols, is_word, last_name, last_word};
-use crate::goal_sentences::GoalMistake;
 use crate::infix_operators::{MOST_SYMBOLS, infix_mistake, is_infix};
-use crate::mistake::Mistake;
-use crate::operator_sentences::OperatorMistake;
-use crate::searching::{beginning_among, may_declare};
-use crate::word_reader::{WordReader, shown_name};
+use mistake_sentences::{ClauseMistake, GoalMistake, Mistake, OperatorMistake};
+use token_search::{
+    Bracket, Gap, WordReader, beginning_among, first_name, first_symbols, is_word, last_name,
+    last_word, may_declare, shown_name,
+};
 
 /// Whether a dot at the front of a text ends a clause.
 fn is_end(text: &[u8]) -> bool {

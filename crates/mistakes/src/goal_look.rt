@@ -1,7 +1,7 @@
 //! What stands from the first token of a goal on.
 
-use crate::word_reader::{Look, Word, WordReader, shown_name};
 use prolog_tokens::TokenKind;
+use token_search::{Look, Word, WordReader, shown_name};
 
 /// What was seen from the first token of a goal on, outside its brackets.
 #[derive(Clone, Copy)]

@@ -1,11 +1,9 @@
 //! Goals that are not read.
 
 use crate::goal_look::GoalLook;
-use crate::goal_sentences::GoalMistake;
-use crate::mistake::Mistake;
-use crate::query_sentences::QueryMistake;
-use crate::searching::beside;
+use mistake_sentences::{GoalMistake, Mistake, QueryMistake};
 use prolog_tokens::TokenKind;
+use token_search::beside;
 
 /// Goals with arguments that are not read, by name.
 const CALLS: [(&str, GoalMistake); 50] = [

@@ -1,7 +1,7 @@
 //! The operators that stand between terms, where one cannot stand.
 
-use crate::gap::{Gap, first_symbols, last_symbols, last_word_bytes};
-use crate::operator_sentences::OperatorMistake;
+use mistake_sentences::OperatorMistake;
+use token_search::{Gap, first_symbols, last_symbols, last_word_bytes};
 
 /// The longest run of symbols that is shown.
 pub(crate) const MOST_SYMBOLS: usize = 16;

@@ -1,9 +1,8 @@
 //! The first predicate of a program, and of a certificate.
 
-use crate::file_sentences::FileMistake;
-use crate::searching::before_byte;
-use crate::word_reader::{Look, Word, WordReader, shown_name};
+use mistake_sentences::FileMistake;
 use prolog_tokens::TokenKind;
+use token_search::{Look, Word, WordReader, before_byte, shown_name};
 
 /// The head of a program's first clause, as far as it was read.
 #[derive(Clone, Copy)]

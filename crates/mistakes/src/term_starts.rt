@@ -1,12 +1,8 @@
 //! Places where a term begins and an operator before it takes none.
 
-use crate::clause_sentences::ClauseMistake;
-use crate::gap::{Gap, last_name, last_symbols};
 use crate::infix_operators::{MOST_SYMBOLS, is_infix};
-use crate::mistake::Mistake;
-use crate::operator_sentences::OperatorMistake;
-use crate::searching::may_declare;
-use crate::word_reader::shown_name;
+use mistake_sentences::{ClauseMistake, Mistake, OperatorMistake};
+use token_search::{Gap, last_name, last_symbols, may_declare, shown_name};
 
 /// The operators that consist of symbols and stand before a term.
 const PREFIX: [&[u8]; 5] = [b":-", b"?-", b"\\+", b"-", b"\\"];

@@ -1,9 +1,7 @@
 //! What a certificate's facts say of components.
 
-use crate::fact_runs::FactRuns;
-use crate::listed::Listed;
-use crate::table::Table;
 use certificate::{CertNorm, Certificate, Fact, PredText};
+use listed_programs::{FactRuns, Listed, Table};
 use std::alloc::{AllocError, Global};
 
 /// What the facts say of a component.

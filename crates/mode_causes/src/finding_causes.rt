@@ -3,10 +3,9 @@
 use crate::cause::{Cause, Causes, Limit};
 use crate::culprit::Culprit;
 use crate::lacking::{CallAt, Found};
-use crate::listed::{Listed, Step};
 use crate::sizing::Sizing;
-use crate::table::ClauseRow;
 use certificate::Fact;
+use listed_programs::{ClauseRow, Listed, Step};
 use sequences::Sequence;
 use std::alloc::{AllocError, Global};
 

@@ -2,9 +2,9 @@
 
 use crate::finding_causes::View;
 use crate::rigid_sets::{AtomSets, RigidSets};
-use crate::table::ClauseRow;
 use crate::truths::arguments_of;
 use crate::walk::Walk;
+use listed_programs::ClauseRow;
 use std::alloc::{AllocError, Global};
 
 /// How many own calls are followed, one after the other.

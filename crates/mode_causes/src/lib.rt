@@ -9,14 +9,10 @@
 
 mod cause;
 mod culprit;
-mod fact_runs;
 mod finding_causes;
 mod lacking;
-mod listed;
-mod places;
 mod rigid_sets;
 mod sizing;
-mod table;
 mod truths;
 mod walk;
 
@@ -24,7 +20,4 @@ pub use cause::{Cause, Causes, Limit};
 pub use culprit::Culprit;
 pub use finding_causes::{Case, View, Why};
 pub use lacking::CallAt;
-pub use listed::{Listed, Step};
-pub use places::Places;
-pub use table::{ClauseRow, Table};
 pub use truths::arguments_of;

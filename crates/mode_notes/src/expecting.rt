@@ -4,8 +4,8 @@ use crate::pred_counts::PredCounts;
 use crate::reading::listed_program;
 use crate::wanted::{Wanted, shown_fact};
 use certificate::{Certificate, Fact};
+use listed_programs::Listed;
 use messages::push_shown;
-use mode_causes::Listed;
 use std::alloc::{AllocError, Global};
 
 /// What was seen of the facts before a place, which are right.

@@ -2,7 +2,8 @@
 
 use crate::showing::Source;
 use certificate::CertNorm;
-use mode_causes::{Step, View, Why};
+use listed_programs::Step;
+use mode_causes::{View, Why};
 
 /// What is said where a counter does not count.
 const COUNTER: &str = "; integers have size 0, so that no counter gets smaller";

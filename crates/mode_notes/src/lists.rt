@@ -1,6 +1,7 @@
 //! Certificates of lists of mappings.
 
-use mode_causes::{Cause, Causes, Limit, Listed};
+use listed_programs::Listed;
+use mode_causes::{Cause, Causes, Limit};
 use std::alloc::{AllocError, Global};
 
 /// How a certificate of lists begins.

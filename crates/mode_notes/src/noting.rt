@@ -4,9 +4,10 @@ use crate::hints::smaller_hint;
 use crate::lacks_shown::{lack_advice, lack_shown, need_shown, unsure_shown};
 use crate::note::Note;
 use crate::showing::{Source, calls_shown};
+use listed_programs::Step;
 use messages::{push_excerpt, push_help, push_shown};
-use mistakes::ShellWord;
-use mode_causes::{Case, Causes, Step, View, Why};
+use mistake_sentences::ShellWord;
+use mode_causes::{Case, Causes, View, Why};
 use std::alloc::{AllocError, Global};
 
 /// How many notes are written at most.

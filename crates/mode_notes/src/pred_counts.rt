@@ -1,7 +1,7 @@
 //! How many facts predicates have.
 
 use certificate::PredText;
-use mode_causes::Listed;
+use listed_programs::Listed;
 use std::alloc::{AllocError, Global};
 
 /// How many facts each predicate has, where they stand in the order of the predicates.

@@ -6,7 +6,8 @@ use crate::showing::Source;
 use certificate::Certificate;
 use clause_normal::normal;
 use cti_terms::Names;
-use mode_causes::{Causes, Listed, Places, Table, View};
+use listed_programs::{Listed, Places, Table};
+use mode_causes::{Causes, View};
 use prolog_reader::read_text;
 use std::alloc::{AllocError, Global};
 

@@ -1,7 +1,8 @@
 //! Predicates, places and arguments as they are shown.
 
+use listed_programs::Listed;
 use messages::Place;
-use mode_causes::{Listed, View};
+use mode_causes::View;
 use std::alloc::{AllocError, Global};
 
 /// How many calls are named of those at which nothing falls.

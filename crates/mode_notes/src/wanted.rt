@@ -1,7 +1,7 @@
 //! Facts that are expected in a certificate, as they are shown.
 
 use crate::showing::is_plain;
-use mode_causes::Listed;
+use listed_programs::Listed;
 use std::alloc::{AllocError, Global};
 
 /// A fact that is expected. Predicates are counted from 0, all else from 1.

@@ -12,22 +12,22 @@ const MOST_SHOWN: usize = 60;
 
 /// A token, its text and its place.
 #[derive(Clone, Copy)]
-pub(crate) struct Word<'a> {
-    pub(crate) kind: TokenKind,
-    pub(crate) text: &'a [u8],
-    pub(crate) start: u32,
-    pub(crate) end: u32,
+pub struct Word<'a> {
+    pub kind: TokenKind,
+    pub text: &'a [u8],
+    pub start: u32,
+    pub end: u32,
 }
 
 /// What looks at tokens one after the other.
-pub(crate) trait Look<'a> {
+pub trait Look<'a> {
     /// Takes the next token, and answers whether there is more to look at.
     fn take(&mut self, word: Word<'a>) -> bool;
 }
 
 /// Gives the tokens of a text one after the other.
 #[derive(Drop)]
-pub(crate) struct WordReader<'a> {
+pub struct WordReader<'a> {
     text: &'a [u8],
     lexer: Lexer<'a>,
 }
@@ -41,7 +41,7 @@ fn bounded(text: &[u8]) -> &[u8]
 
 impl<'a> WordReader<'a> {
     /// Starts at a byte of a text.
-    pub(crate) fn new(text: &'a [u8], at: usize) -> WordReader<'a> {
+    pub fn new(text: &'a [u8], at: usize) -> WordReader<'a> {
         let text = bounded(text.get(at..).unwrap_or(&[]));
         WordReader {
             text,
@@ -50,7 +50,7 @@ impl<'a> WordReader<'a> {
     }
 
     /// The next token, or none where the text ends or has a lexical fault.
-    pub(crate) fn next(&mut self) -> Option<Word<'a>> {
+    pub fn next(&mut self) -> Option<Word<'a>> {
         let Ok(Some(token)) = self.lexer.next() else {
             return None;
         };
@@ -64,7 +64,7 @@ impl<'a> WordReader<'a> {
     }
 
     /// Shows the tokens that are left, up to the one after which there is no more to look at.
-    pub(crate) fn show_to<L: Look<'a>>(&mut self, look: &mut L) {
+    pub fn show_to<L: Look<'a>>(&mut self, look: &mut L) {
         for _ in 0..self.most() {
             match self.next() {
                 Some(word) if look.take(word) => {}
@@ -74,14 +74,14 @@ impl<'a> WordReader<'a> {
     }
 
     /// How many tokens there are at most.
-    pub(crate) fn most(&self) -> usize {
+    pub fn most(&self) -> usize {
         self.text.len()
     }
 }
 
 impl<'a> Word<'a> {
     /// Whether it opens a bracket.
-    pub(crate) fn opens(self) -> bool {
+    pub fn opens(self) -> bool {
         matches!(
             self.kind,
             TokenKind::Paren | TokenKind::List | TokenKind::Curly
@@ -89,7 +89,7 @@ impl<'a> Word<'a> {
     }
 
     /// Whether it closes a bracket.
-    pub(crate) fn closes(self) -> bool {
+    pub fn closes(self) -> bool {
         matches!(
             self.kind,
             TokenKind::ParenEnd | TokenKind::ListEnd | TokenKind::CurlyEnd
@@ -97,7 +97,7 @@ impl<'a> Word<'a> {
     }
 
     /// How many brackets are open after it, where this many are open before it.
-    pub(crate) fn depth_after(self, depth: u32) -> u32 {
+    pub fn depth_after(self, depth: u32) -> u32 {
         if self.opens() {
             depth.saturating_add(1)
         } else if self.closes() {
@@ -108,33 +108,33 @@ impl<'a> Word<'a> {
     }
 
     /// Whether it ends a clause.
-    pub(crate) fn is_end(self) -> bool {
+    pub fn is_end(self) -> bool {
         matches!(self.kind, TokenKind::End)
     }
 
     /// Whether it is a neck.
-    pub(crate) fn is_neck(self) -> bool {
+    pub fn is_neck(self) -> bool {
         self.text == b":-".as_slice()
     }
 
     /// Whether it stands after a whole head.
-    pub(crate) fn follows_head(self) -> bool {
+    pub fn follows_head(self) -> bool {
         self.is_end() || self.is_neck()
     }
 
     /// Whether it is a name.
-    pub(crate) fn is_name(self) -> bool {
+    pub fn is_name(self) -> bool {
         matches!(self.kind, TokenKind::Name | TokenKind::Quoted)
     }
 
     /// Whether it opens the arguments of the word before it.
-    pub(crate) fn opens_arguments(self, before: Word<'_>) -> bool {
+    pub fn opens_arguments(self, before: Word<'_>) -> bool {
         self.kind == TokenKind::Paren && self.start == before.end
     }
 }
 
 /// The text of a name, if it is short enough to be shown.
-pub(crate) fn shown_name(text: &[u8]) -> Option<&str> {
+pub fn shown_name(text: &[u8]) -> Option<&str> {
     if text.len() > MOST_SHOWN {
         return None;
     }

@@ -1,9 +1,8 @@
 //! Lines of certificates that are not facts, or not as they have to be.
 
 use crate::fact_look::fact_mistake;
-use crate::fact_mistake::FactMistake;
-use crate::mode_numbers::ModeNumbers;
-use crate::searching::{after_last, before_byte, beginning_among, has_part};
+use mistake_sentences::{FactMistake, ModeNumbers};
+use token_search::{after_last, before_byte, beginning_among, has_part};
 
 /// The facts whose numbers are never negative.
 const NATURAL: [&str; 9] = [

@@ -1,9 +1,9 @@
 //! The usual mistakes, and what to do about each.
 
-use crate::byte_mistakes::ByteMistake;
+use crate::byte_sentences::ByteMistake;
 use crate::clause_sentences::ClauseMistake;
-use crate::edit_mistakes::EditMistake;
-use crate::fact_mistake::FactMistake;
+use crate::edit_sentences::EditMistake;
+use crate::fact_sentences::FactMistake;
 use crate::file_sentences::FileMistake;
 use crate::goal_sentences::GoalMistake;
 use crate::head_sentences::HeadMistake;

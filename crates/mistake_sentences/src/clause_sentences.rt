@@ -29,7 +29,7 @@ pub enum ClauseMistake<'a> {
 
 impl<'a> ClauseMistake<'a> {
     /// What it is shown as.
-    pub(crate) fn sentence(self) -> &'static str {
+    pub fn sentence(self) -> &'static str {
         match self {
             Self::CommaForDot => "does the clause before end with a comma in place of its dot?",
             Self::SemicolonForDot => "does the clause before end with `;` in place of its dot?",
@@ -58,7 +58,7 @@ impl<'a> ClauseMistake<'a> {
     }
 
     /// What its sentence shows.
-    pub(crate) fn shown(self) -> [Shown<'a>; 3] {
+    pub fn shown(self) -> [Shown<'a>; 3] {
         match self {
             Self::VariableName(name) | Self::Space(name) | Self::NoParentheses(name) => [
                 Shown::Text(name),

@@ -26,7 +26,7 @@ pub enum GoalMistake {
 
 impl GoalMistake {
     /// What it is shown as.
-    pub(crate) fn sentence(self) -> &'static str {
+    pub fn sentence(self) -> &'static str {
         match self {
             Self::Variable => "a variable as a goal is not read: name the predicate",
             Self::Number => "a number is not a goal: name a predicate",

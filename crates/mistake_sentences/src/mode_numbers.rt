@@ -3,7 +3,7 @@
 use std::fmt;
 
 /// The most arguments of a predicate.
-pub(crate) const MOST_ARGUMENTS: usize = 12;
+pub const MOST_ARGUMENTS: usize = 12;
 
 /// Numbers from 1 to 12, shown as a list in which they ascend.
 #[derive(Clone, Copy)]
@@ -14,12 +14,12 @@ pub struct ModeNumbers {
 
 impl ModeNumbers {
     /// No numbers.
-    pub(crate) fn none() -> ModeNumbers {
+    pub fn none() -> ModeNumbers {
         ModeNumbers { has: [false; 13] }
     }
 
     /// Adds a number, and answers whether it is one from 1 to 12.
-    pub(crate) fn add(&mut self, number: usize) -> bool {
+    pub fn add(&mut self, number: usize) -> bool {
         if number == 0 || number > MOST_ARGUMENTS {
             return false;
         }

@@ -15,7 +15,7 @@ pub enum QueryMistake {
 
 impl QueryMistake {
     /// What it is shown as.
-    pub(crate) fn sentence(self) -> &'static str {
+    pub fn sentence(self) -> &'static str {
         match self {
             Self::Empty => "the query is empty",
             Self::Prompt => "leave out `?-`",

@@ -2,7 +2,7 @@
 
 use crate::command::Command;
 use crate::command_option::CommandOption;
-use mistakes::{ShellWord, Shown};
+use mistake_sentences::{ShellWord, Shown};
 
 /// Why the words are not a command.
 #[derive(Clone, Copy)]
@@ -31,7 +31,7 @@ fn texts<'a>(first: &'a str, second: &'a str, third: &'a str) -> [Shown<'a>; 3] 
 
 impl<'a> WordFault<'a> {
     /// What it is shown as.
-    pub(crate) fn sentence(self) -> &'static str {
+    pub fn sentence(self) -> &'static str {
         match self {
             Self::NoCommand => "a command is missing",
             Self::UnknownCommand(_) => "`{}` is not a command",
@@ -51,7 +51,7 @@ impl<'a> WordFault<'a> {
     }
 
     /// What its sentence shows.
-    pub(crate) fn shown(self) -> [Shown<'a>; 3] {
+    pub fn shown(self) -> [Shown<'a>; 3] {
         // An array of fixed texts alone would have another lifetime than those with words.
         let none: &'a str = "";
         match self {

@@ -12,7 +12,7 @@ pub enum HeadMistake {
 
 impl HeadMistake {
     /// What it is shown as.
-    pub(crate) fn sentence(self) -> &'static str {
+    pub fn sentence(self) -> &'static str {
         match self {
             Self::Comma =>
                 "a head has no comma outside parentheses: does a clause end with a comma in place of its dot?",

@@ -4,7 +4,7 @@
 const MOST_SOUGHT: usize = 32;
 
 /// Whether a part stands in a text. A part that is too long is never found.
-pub(crate) fn has_part(text: &[u8], part: &[u8]) -> bool {
+pub fn has_part(text: &[u8], part: &[u8]) -> bool {
     if part.len() > MOST_SOUGHT {
         return false;
     }
@@ -17,7 +17,7 @@ pub(crate) fn has_part(text: &[u8], part: &[u8]) -> bool {
 }
 
 /// What stands beside a name in a table.
-pub(crate) fn beside<T: Copy>(rows: &[(&'static str, T)], name: &[u8]) -> Option<T> {
+pub fn beside<T: Copy>(rows: &[(&'static str, T)], name: &[u8]) -> Option<T> {
     for (other, value) in rows {
         if other.as_bytes() == name {
             return Some(*value);
@@ -27,10 +27,7 @@ pub(crate) fn beside<T: Copy>(rows: &[(&'static str, T)], name: &[u8]) -> Option
 }
 
 /// The one of these texts that a text begins with.
-pub(crate) fn beginning_among(
-    beginnings: &'static [&'static str],
-    text: &[u8],
-) -> Option<&'static str> {
+pub fn beginning_among(beginnings: &'static [&'static str], text: &[u8]) -> Option<&'static str> {
     for beginning in beginnings {
         if text.starts_with(beginning.as_bytes()) {
             return Some(beginning);
@@ -40,20 +37,20 @@ pub(crate) fn beginning_among(
 }
 
 /// A text up to the first byte of this kind, where there is one.
-pub(crate) fn before_byte(text: &[u8], end: u8) -> Option<&[u8]> {
+pub fn before_byte(text: &[u8], end: u8) -> Option<&[u8]> {
     let len = text.iter().position(|byte| *byte == end)?;
     text.get(..len)
 }
 
 /// A text after the last byte of this kind, or the whole text where there is none.
-pub(crate) fn after_last(text: &[u8], separator: u8) -> &[u8] {
+pub fn after_last(text: &[u8], separator: u8) -> &[u8] {
     let mut parts = text.rsplit(|byte| *byte == separator);
     parts.next().unwrap_or(text)
 }
 
 /// Whether an operator of this name may be declared by a directive of a text: a part up to a `)` has `op(`, and the
 /// name after it.
-pub(crate) fn may_declare(text: &[u8], name: &[u8]) -> bool {
+pub fn may_declare(text: &[u8], name: &[u8]) -> bool {
     for part in text.split(|byte| *byte == b')') {
         if has_part(part, b"op(") && has_part(part, name) {
             return true;

@@ -38,7 +38,7 @@ pub enum FactMistake<'a> {
 
 impl<'a> FactMistake<'a> {
     /// What it is shown as.
-    pub(crate) fn sentence(self) -> &'static str {
+    pub fn sentence(self) -> &'static str {
         match self {
             Self::OfLists =>
                 "this is a certificate of lists of mappings, as `cti lex` writes it: `cti check` reads only those of `cti infer`",
@@ -72,7 +72,7 @@ impl<'a> FactMistake<'a> {
     }
 
     /// What its sentence shows.
-    pub(crate) fn shown(self) -> [Shown<'a>; 3] {
+    pub fn shown(self) -> [Shown<'a>; 3] {
         match self {
             Self::ModeOrder(numbers) => [Shown::Mode(numbers), Shown::Nothing, Shown::Nothing],
             Self::Name(name)

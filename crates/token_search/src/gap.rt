@@ -22,7 +22,7 @@ impl Bracket {
     }
 
     /// Whether commas separate terms in it.
-    pub(crate) fn has_terms(self) -> bool {
+    pub fn has_terms(self) -> bool {
         matches!(self, Bracket::Arguments | Bracket::List)
     }
 }
@@ -44,7 +44,7 @@ pub struct Gap<'a> {
 
 impl Gap<'_> {
     /// Whether it is within a term of an argument or a list.
-    pub(crate) fn is_in_term(self) -> bool {
+    pub fn is_in_term(self) -> bool {
         match self.bracket {
             Some(bracket) => bracket.has_terms(),
             None => false,
@@ -53,22 +53,22 @@ impl Gap<'_> {
 }
 
 /// Whether a byte is one of the symbols that operators consist of.
-pub(crate) fn is_symbol(byte: u8) -> bool {
+pub fn is_symbol(byte: u8) -> bool {
     b"#$&*+-./:<=>?@^~\\".contains(&byte)
 }
 
 /// Whether a byte can stand within a name.
-pub(crate) fn is_word(byte: u8) -> bool {
+pub fn is_word(byte: u8) -> bool {
     byte.is_ascii_alphanumeric() || byte == b'_'
 }
 
 /// The bytes of a name or variable that a text ends in.
-pub(crate) fn last_word_bytes(text: &[u8]) -> &[u8] {
+pub fn last_word_bytes(text: &[u8]) -> &[u8] {
     text.rsplit(|byte| !is_word(*byte)).next().unwrap_or(text)
 }
 
 /// The name or variable that a text ends in, which is empty where there is none.
-pub(crate) fn last_word(text: &[u8]) -> &[u8] {
+pub fn last_word(text: &[u8]) -> &[u8] {
     let word = last_word_bytes(text);
     match text.strip_suffix(word) {
         // The character of `0'` is no name.
@@ -78,7 +78,7 @@ pub(crate) fn last_word(text: &[u8]) -> &[u8] {
 }
 
 /// The name that a text ends in, which begins with a small letter.
-pub(crate) fn last_name(text: &[u8]) -> Option<&[u8]> {
+pub fn last_name(text: &[u8]) -> Option<&[u8]> {
     let word = last_word(text);
     match word {
         [b'a'..=b'z', ..] => Some(word),
@@ -87,7 +87,7 @@ pub(crate) fn last_name(text: &[u8]) -> Option<&[u8]> {
 }
 
 /// The name at the front of a text, which begins with a small letter.
-pub(crate) fn first_name(text: &[u8]) -> Option<&[u8]> {
+pub fn first_name(text: &[u8]) -> Option<&[u8]> {
     match text {
         [b'a'..=b'z', ..] => text.split(|byte| !is_word(*byte)).next(),
         _ => None,
@@ -95,12 +95,12 @@ pub(crate) fn first_name(text: &[u8]) -> Option<&[u8]> {
 }
 
 /// The run of symbols at the front of a text.
-pub(crate) fn first_symbols(text: &[u8]) -> &[u8] {
+pub fn first_symbols(text: &[u8]) -> &[u8] {
     text.split(|byte| !is_symbol(*byte)).next().unwrap_or(text)
 }
 
 /// The run of symbols that a text ends in, but for layout.
-pub(crate) fn last_symbols(text: &[u8]) -> &[u8] {
+pub fn last_symbols(text: &[u8]) -> &[u8] {
     let text = text.trim_ascii_end();
     text.rsplit(|byte| !is_symbol(*byte)).next().unwrap_or(text)
 }

@@ -21,7 +21,7 @@ pub enum FileMistake<'a> {
 
 impl<'a> FileMistake<'a> {
     /// What it is shown as.
-    pub(crate) fn sentence(self) -> &'static str {
+    pub fn sentence(self) -> &'static str {
         match self {
             Self::Query { .. } => "run it with `cti run {} {}`",
             Self::Exchanged => "the first file is a certificate: the two files may be swapped",
@@ -32,7 +32,7 @@ impl<'a> FileMistake<'a> {
     }
 
     /// What its sentence shows.
-    pub(crate) fn shown(self) -> [Shown<'a>; 3] {
+    pub fn shown(self) -> [Shown<'a>; 3] {
         match self {
             Self::Query { file, query } => [Shown::Word(file), Shown::Word(query), Shown::Nothing],
             Self::Exchanged | Self::NoProgram => [Shown::Nothing; 3],

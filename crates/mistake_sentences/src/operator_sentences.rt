@@ -24,7 +24,7 @@ pub enum OperatorMistake<'a> {
 
 impl<'a> OperatorMistake<'a> {
     /// What it is shown as.
-    pub(crate) fn sentence(self) -> &'static str {
+    pub fn sentence(self) -> &'static str {
         match self {
             Self::Module(_) => "`:` is not an operator here: modules are not read, leave out `{}:`",
             Self::SplitNeck => "`: -` is not an operator here: write `:-`",
@@ -48,7 +48,7 @@ impl<'a> OperatorMistake<'a> {
     }
 
     /// What its sentence shows.
-    pub(crate) fn shown(self) -> [Shown<'a>; 3] {
+    pub fn shown(self) -> [Shown<'a>; 3] {
         match self {
             Self::SplitNeck | Self::Percent | Self::Constraint | Self::Chain => [Shown::Nothing; 3],
             Self::Foreign(sign, own) => [Shown::Text(own), Shown::Text(sign), Shown::Nothing],

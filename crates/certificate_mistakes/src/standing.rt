@@ -1,8 +1,8 @@
 //! Facts of certificates that stand at a wrong place.
 
 use crate::fact_forms::{FactForm, form_of};
-use crate::fact_mistake::FactMistake;
-use crate::searching::before_byte;
+use mistake_sentences::FactMistake;
+use token_search::before_byte;
 
 /// The form of the fact of a line.
 fn form_of_line(line: &[u8]) -> Option<&'static FactForm> {

@@ -1,11 +1,9 @@
 //! Lines of certificates, read token by token.
 
 use crate::fact_forms::{FactForm, form_of};
-use crate::fact_mistake::FactMistake;
-use crate::gap::first_name;
-use crate::mode_numbers::MOST_ARGUMENTS;
-use crate::word_reader::{Look, Word, WordReader, shown_name};
+use mistake_sentences::{FactMistake, MOST_ARGUMENTS};
 use prolog_tokens::TokenKind;
+use token_search::{Look, Word, WordReader, first_name, shown_name};
 
 /// The names of the norms.
 const NORMS: [&[u8]; 2] = [b"term", b"list"];

@@ -4,7 +4,7 @@ use crate::asked::Asked;
 use crate::command::Command;
 use crate::command_option::CommandOption;
 use crate::word_fault::WordFault;
-use mistakes::ShellWord;
+use mistake_sentences::ShellWord;
 
 /// The most digits of a number of steps or of predicates, and of a depth.
 const MOST_DIGITS: usize = 7;
