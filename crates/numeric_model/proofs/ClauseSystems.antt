@@ -12,7 +12,7 @@ use Rattle.termination_model.specs.sizes.Sizes.{wide_system}
 use Rattle.termination_model.specs.sizes.ShortSystems.{short_system}
 use Rattle.polyhedra.specs.Telling.{IsSystem, HasNaturalHead}
 use Rattle.polyhedra.specs.Making.{arity_of}
-use Rattle.polyhedra.proofs.RowLists.{long_rows}
+use Rattle.redundant_rows.proofs.RowLists.{long_rows}
 use Rattle.numeric_model.proofs.Naturals.{expressions_natural}
 use Rattle.numeric_model.proofs.Translate.{IsOf}
 

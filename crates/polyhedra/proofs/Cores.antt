@@ -15,13 +15,12 @@ use Rattle.linear_rows.specs.declared.system.System.{System}
 use Rattle.linear_rows.proofs.Members.{from_All, to_All}
 use Rattle.linear_rows.proofs.Starts.{dot-zeros}
 use Rattle.termination_model.specs.chains.ChainRows.{HasSublist, HasPoint, AreSpoken, IsBlown, bottom_row}
-use Rattle.polyhedra.specs.Choosing.{IsCore}
+use Rattle.redundant_rows.specs.Choosing.{IsCore}
 use Rattle.polyhedra.specs.Making.{arity_of, IsImageOf, ImageIsBlown, IsJoinOf, SaysImage, SaysJoin}
 use Rattle.polyhedra.specs.PolyLaws.{HaveFit}
-use Rattle.polyhedra.specs.Projecting.{IsCut, left_of}
-use Rattle.polyhedra.specs.Sweeping.{IsLess}
+use Rattle.redundant_rows.specs.Projecting.{IsCut, left_of}
 use Rattle.polyhedra.specs.Telling.{HasNaturalHead}
-use Rattle.polyhedra.proofs.Sweeps.{part_in, less_trans}
+use Rattle.redundant_rows.proofs.Sweeps.{part_in}
 use Rattle.termination_model.proofs.ImageLaw.{image_same}
 use Rattle.termination_model.proofs.JoinLaw.{join_same}
 
@@ -72,11 +71,6 @@ join_of n first second lf ls pf ps decided spoken rows core =
     }
 
 -- ---- what a projection gives
-pub core_of_less : (n : ℕ) (all some rows : List (List ℤ)) → IsLess n all some → IsCore n some rows → IsCore n all rows
-core_of_less n all some rows less core =
-    let both = less_trans n all some rows less (record { part = core.part; covers = core.covers }) in
-    record { part = both.part; covers = both.covers; irredundant = core.irredundant }
-
 pub fit_of_spoken : (n : ℕ) (rows : List Row) → AreSpoken (all_of fits) n (plain_rows rows) → HaveFit rows
 fit_of_spoken n [] a k d l = absurd (omega arith)
 fit_of_spoken n (r ∷ rows) a zero d l = a.0.1

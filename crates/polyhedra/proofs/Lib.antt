@@ -1,12 +1,5 @@
 pub mod Remembered
-pub mod Origins
-pub mod InsertionLemmas
-pub mod MultipleLemmas
-pub mod Appends
-pub mod Cuts
 pub mod Cores
 pub mod Fitting
-pub mod RowLists
-pub mod Sweeps
 pub mod Targets
 pub mod Keeps

@@ -1,12 +1,6 @@
-pub mod Projecting
 pub mod Telling
 pub mod Making
-pub mod Choosing
-pub mod Sweeping
 pub mod PolyLaws
 pub mod Keeping
-pub mod Negating
-pub mod Multiples
-pub mod Inserting
 pub mod Filling
 pub mod Remembering

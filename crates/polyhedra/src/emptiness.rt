@@ -4,9 +4,9 @@ ghost use Rattle.std.specs.Prelude.{IfOk};
 ghost use Rattle.linear_rows.specs.Plain.{plain_rows, HaveWidth};
 ghost use Rattle.polyhedra.specs.Filling.{IsEmptiness};
 
-use crate::at_once::tested_at;
 use crate::bottom::bottom_row;
 use linear_rows::{Point, Rows};
+use redundant_rows::tested_at;
 use simplex::Held;
 use std::alloc::{AllocError, Global};
 

@@ -9,9 +9,9 @@ ghost use Rattle.polyhedra.specs.Remembering.{IsPointOf, IsFailing, HasNegative}
 ghost use Rattle.polyhedra.specs.Telling.{TellsHead, IsSystem, at_head, IsTarget};
 ghost use Rattle.linear_rows.specs.Showing.{FailsAt};
 
-use crate::at_once::tested;
 use exact128::{plus, sum_of_products, times};
 use linear_rows::{Point, Row, System};
+use redundant_rows::tested;
 use simplex::Held;
 use std::alloc::{AllocError, Global};
 use termination_model::{columns, replaced};

@@ -6,11 +6,11 @@ ghost use Rattle.linear_rows.specs.Plain.{HaveWidth, plain_row, plain_rows};
 ghost use Rattle.linear_rows.specs.Solving.{units};
 ghost use Rattle.linear_rows.specs.Systems.{naturals, difference, opposite, equalities, over_variables, image_rows};
 ghost use Rattle.polyhedra.specs.Making.{arity_of};
-ghost use Rattle.polyhedra.specs.Negating.{IsNegatable};
+ghost use Rattle.redundant_rows.specs.Negating.{IsNegatable};
 ghost use Rattle.polyhedra.specs.Telling.{IsSystem, HasNaturalHead};
 
-use crate::appending::{opposite_of, push_all, push_alone, push_opposite, push_zeros};
 use linear_rows::{Numbers, Row, Rows, System};
+use redundant_rows::{opposite_of, push_all, push_alone, push_opposite, push_zeros};
 use std::alloc::{AllocError, Global};
 
 /// The rows of an image's system. Its columns are the head's arguments and then the variables.

@@ -9,10 +9,9 @@ ghost use Rattle.polyhedra.specs.Telling.{IsSystem, HasNaturalHead};
 
 use crate::image_system::image_system;
 use crate::made::{Made, about, everything, strong};
-use crate::points::point_of_head;
 use crate::poly::Poly;
-use crate::projecting::projected;
 use linear_rows::{Point, System};
+use redundant_rows::{point_of_head, projected};
 use std::alloc::{AllocError, Global};
 
 /// The sizes that the head's arguments have over a clause's system.

@@ -5,12 +5,12 @@ ghost use Rattle.exact128.specs.Sums.{entry};
 ghost use Rattle.linear_rows.specs.Plain.{HaveWidth, plain_row, plain_rows};
 ghost use Rattle.linear_rows.specs.Solving.{zeros, units};
 ghost use Rattle.linear_rows.specs.Systems.{naturals, differences, in_first, in_second, join_rows, opposite};
-ghost use Rattle.polyhedra.specs.Negating.{IsNegatable};
+ghost use Rattle.redundant_rows.specs.Negating.{IsNegatable};
 ghost use Rattle.polyhedra.specs.PolyLaws.{HaveFit};
 
-use crate::appending::{opposite_of, push_all, push_alone, push_opposite, push_zeros};
 use crate::image_system::push_naturals;
 use linear_rows::{Numbers, Row, Rows};
+use redundant_rows::{opposite_of, push_all, push_alone, push_opposite, push_zeros};
 use std::alloc::{AllocError, Global};
 
 /// The rows of a join's system. Its columns are x and y, of one column for each argument, and s.

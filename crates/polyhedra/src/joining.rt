@@ -10,10 +10,9 @@ ghost use Rattle.polyhedra.specs.Making.{SaysJoin};
 use crate::emptiness::{Emptiness, emptiness_of};
 use crate::join_system::join_system;
 use crate::made::{Made, about, everything, strong};
-use crate::points::between;
 use crate::poly::Poly;
-use crate::projecting::projected;
 use linear_rows::Point;
+use redundant_rows::{between, projected};
 use std::alloc::{AllocError, Global};
 
 /// The least polyhedron over both.

@@ -11,7 +11,6 @@ ghost use Rattle.polyhedra.specs.Telling.{TellsHead, IsSystem, HasNaturalHead, a
 ghost use Rattle.polyhedra.specs.Making.{arity_of, SaysImage, SaysJoin, SaysWidened};
 ghost use Rattle.polyhedra.specs.PolyLaws.{HaveFit, law_of_bottoms, law_of_spoken, law_of_fits};
 
-use crate::at_once::tested;
 use crate::bottom::bottom_row;
 use crate::domain::Domain;
 use crate::heads::tested_on;
@@ -19,9 +18,9 @@ use crate::imaging::imaged;
 use crate::joining::joined;
 use crate::keeping::{Kept, kept_on};
 use crate::made::Made;
-use crate::points::copied_if_known;
 use crate::widened::Widened;
 use linear_rows::{Point, Row, Rows, System};
+use redundant_rows::{copied_if_known, tested};
 use simplex::Held;
 use std::alloc::{AllocError, Global};
 

@@ -1,7 +1,7 @@
 use Rattle.std.proofs.Common.{◌≡◌, ℕ, suc, subst, ap, ◌∙◌, sym, inr, None, length, arith}
 use Rattle.linear_rows.specs.Plain.{plain_row, plain_rows, HaveWidth}
 use Rattle.polyhedra.specs.Telling.{at_head, IsTarget}
-use Rattle.polyhedra.proofs.RowLists.{widths_of}
+use Rattle.redundant_rows.proofs.RowLists.{widths_of}
 use Rattle.polyhedra.proofs.Targets.{long_target}
 use Rattle.simplex.proofs.WideTests.{fits_same, wide_target}
 use Rattle.polyhedra.proofs.heads.tested_on.Goals as goal

@@ -4,7 +4,7 @@ use Rattle.std.specs.Prelude.{FitsSigned}
 use Rattle.std.proofs.lemmas.Int.{to_z-of_z}
 use Rattle.linear_rows.specs.Solving.{zeros, units}
 use Rattle.linear_rows.specs.Systems.{opposite}
-use Rattle.polyhedra.proofs.Appends.{long_append}
+use Rattle.redundant_rows.proofs.Appends.{long_append}
 use Rattle.fourier.proofs.StartRows.{units_parts}
 use Rattle.termination_model.proofs.ImageLaw.{length-units}
 use Rattle.std.proofs.lemmas.List.{length-map}

@@ -3,7 +3,7 @@ use Rattle.std.specs.Int.{w128}
 use Rattle.std.specs.Prelude.{FitsSigned}
 use Rattle.std.proofs.lemmas.Int.{to_z-of_z}
 use Rattle.linear_rows.specs.Solving.{zeros}
-use Rattle.polyhedra.proofs.Appends.{opposite_difference, long_append, long_alone}
+use Rattle.redundant_rows.proofs.Appends.{opposite_difference, long_append, long_alone}
 use Rattle.polyhedra.proofs.image_system.at_most.Goals as goal
 
 pub returns-clause-row : goal.returns-clause-row

@@ -1,6 +1,6 @@
 use Rattle.std.proofs.Common.{◌≡◌, List, ℤ, ap, ◌∙◌, ◌++◌, length, arith}
 use Rattle.linear_rows.specs.Solving.{zeros}
-use Rattle.polyhedra.proofs.Appends.{long_append}
+use Rattle.redundant_rows.proofs.Appends.{long_append}
 use Rattle.simplex.proofs.RowLists.{length-zeros}
 use Rattle.polyhedra.proofs.image_system.behind_arguments.Goals as goal
 

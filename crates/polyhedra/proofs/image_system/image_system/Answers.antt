@@ -1,6 +1,6 @@
 use Rattle.std.proofs.Common.{ℕ, sym, subst}
 use Rattle.linear_rows.specs.Plain.{HaveWidth}
-use Rattle.polyhedra.proofs.RowLists.{widths_of}
+use Rattle.redundant_rows.proofs.RowLists.{widths_of}
 use Rattle.polyhedra.proofs.image_system.image_system.Goals as goal
 
 pub push_equalities-requires-clause-head : goal.push_equalities-requires-clause-head

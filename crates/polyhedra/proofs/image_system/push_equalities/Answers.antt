@@ -3,8 +3,8 @@ use Rattle.std.proofs.lemmas.Option.{get_or_from_slice_get}
 use Rattle.std.specs.Prelude.{All, ◌≤ℤ◌}
 use Rattle.linear_rows.specs.Plain.{plain_row, plain_rows}
 use Rattle.linear_rows.specs.Systems.{difference, opposite, equalities}
-use Rattle.polyhedra.proofs.Appends.{row_moved, equalities_left, natural_negatable}
-use Rattle.polyhedra.proofs.RowLists.{still_wide, plain_has}
+use Rattle.redundant_rows.proofs.Appends.{row_moved, equalities_left, natural_negatable}
+use Rattle.redundant_rows.proofs.RowLists.{still_wide, plain_has}
 use Rattle.polyhedra.proofs.image_system.push_equalities.Goals as goal
 
 pub at_least-requires-clause-numbers : goal.at_least-requires-clause-numbers

@@ -1,8 +1,8 @@
 use Rattle.std.proofs.Common.{◌-◌, ◌+◌, pos, ◌∙◌, ◌∷◌, arith}
 use Rattle.linear_rows.specs.Solving.{units}
 use Rattle.linear_rows.specs.Systems.{naturals}
-use Rattle.polyhedra.proofs.Appends.{row_moved, naturals_left}
-use Rattle.polyhedra.proofs.RowLists.{still_wide}
+use Rattle.redundant_rows.proofs.Appends.{row_moved, naturals_left}
+use Rattle.redundant_rows.proofs.RowLists.{still_wide}
 use Rattle.polyhedra.proofs.image_system.push_naturals.Goals as goal
 
 pub loop-i-preserved : goal.loop-i-preserved

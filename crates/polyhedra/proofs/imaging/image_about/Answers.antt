@@ -2,7 +2,7 @@ use Rattle.std.proofs.Common.{rules, ◌≡◌, ℕ, length, sym, subst, ◌∙�
 use Rattle.std.proofs.lemmas.List.{length-map}
 use Rattle.linear_rows.specs.Plain.{plain_row, plain_rows, HaveWidth}
 use Rattle.polyhedra.specs.Making.{arity_of}
-use Rattle.polyhedra.specs.Projecting.{IsProjected, IsCut, left_of}
+use Rattle.redundant_rows.specs.Projecting.{IsProjected, IsCut, left_of}
 use Rattle.polyhedra.proofs.Cores.{part_spoken, fit_of_spoken, image_of_cut, said_image}
 use Rattle.polyhedra.proofs.imaging.image_about.Goals as goal
 

@@ -2,7 +2,7 @@ use Rattle.std.proofs.Common.{◌≡◌, ℕ, ◌<◌, ◌-◌, pos, negsuc, neg
 use Rattle.std.proofs.lemmas.List.{length-map}
 use Rattle.linear_rows.specs.Solving.{zeros, units}
 use Rattle.linear_rows.specs.Systems.{opposite}
-use Rattle.polyhedra.proofs.Appends.{opposite_units, long_append}
+use Rattle.redundant_rows.proofs.Appends.{opposite_units, long_append}
 use Rattle.fourier.proofs.StartRows.{units_parts}
 use Rattle.termination_model.proofs.ImageLaw.{length-units}
 use Rattle.simplex.proofs.RowLists.{length_push}

@@ -3,7 +3,7 @@ use Rattle.std.specs.Int.{w128}
 use Rattle.std.specs.Prelude.{FitsSigned}
 use Rattle.std.proofs.lemmas.Int.{to_z-of_z}
 use Rattle.linear_rows.specs.Solving.{zeros}
-use Rattle.polyhedra.proofs.Appends.{long_append}
+use Rattle.redundant_rows.proofs.Appends.{long_append}
 use Rattle.simplex.proofs.RowLists.{length-zeros, length_push}
 use Rattle.polyhedra.proofs.join_system.first_row.Goals as goal
 

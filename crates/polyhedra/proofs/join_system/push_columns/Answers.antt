@@ -1,8 +1,8 @@
 use Rattle.std.proofs.Common.{◌-◌, ◌+◌, ◌++◌, [], pos, ◌∙◌, ◌∷◌, arith}
 use Rattle.linear_rows.specs.Solving.{units}
 use Rattle.linear_rows.specs.Systems.{differences, opposite}
-use Rattle.polyhedra.proofs.Appends.{row_moved, differences_left}
-use Rattle.polyhedra.proofs.RowLists.{still_wide}
+use Rattle.redundant_rows.proofs.Appends.{row_moved, differences_left}
+use Rattle.redundant_rows.proofs.RowLists.{still_wide}
 use Rattle.polyhedra.proofs.join_system.push_columns.Goals as goal
 
 pub loop-i-preserved : goal.loop-i-preserved

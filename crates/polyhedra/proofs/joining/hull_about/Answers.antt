@@ -1,6 +1,6 @@
 use Rattle.std.proofs.Common.{rules, ◌≡◌, ◌+◌, ℕ, sym, subst}
 use Rattle.linear_rows.specs.Plain.{plain_rows, HaveWidth}
-use Rattle.polyhedra.specs.Projecting.{IsProjected, IsCut, left_of}
+use Rattle.redundant_rows.specs.Projecting.{IsProjected, IsCut, left_of}
 use Rattle.polyhedra.proofs.Cores.{part_spoken, fit_of_spoken, join_of_cut, said_join}
 use Rattle.simplex.proofs.RowLists.{long_rows}
 use Rattle.polyhedra.proofs.joining.hull_about.Goals as goal

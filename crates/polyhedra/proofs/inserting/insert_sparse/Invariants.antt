@@ -1,9 +1,0 @@
-use Rattle.std.proofs.Common.{◌≡◌}
-use Rattle.polyhedra.specs.Inserting.{IsInsertion, AreKnown}
-use Rattle.polyhedra.proofs.inserting.insert_sparse.Given as goal
-
-abbrev pub invariant-loop-place : goal.invariant-loop-place
-invariant-loop-place l = record {
-  insertion : IsInsertion l.rows.width l.rows.list l.insertion.marks.items l.insertion.kept;
-  known : l.most ≡ l.rows.width → AreKnown l.insertion.marks.items l.place;
-}
