@@ -11,7 +11,7 @@ use Rattle.clause_normal.specs.declared.words.Connective.TheVariants as connecti
 use Rattle.clause_normal.specs.declared.words.Neck.{Neck}
 use Rattle.clause_normal.specs.declared.words.Neck.TheVariants as neck
 use Rattle.clause_normal.specs.Words.{connective_of, neck_of}
-use Rattle.clause_normal.specs.Terms.{plain_list, occurrences}
+use Rattle.clause_variables.specs.Terms.{plain_list, occurrences}
 use Rattle.clause_normal.specs.Bodies.{Goal, call, choice, bad, named_goal, atom_goal}
 use Rattle.clause_normal.specs.ChoiceNames.{functor_texts, call_texts, rule_texts}
 use Rattle.clause_normal.specs.declared.rule.Call.{Call as CodeCall}

@@ -15,7 +15,7 @@ use Rattle.clause_normal.specs.declared.words.Connective.TheVariants as connecti
 use Rattle.clause_normal.specs.declared.words.Neck.{Neck}
 use Rattle.clause_normal.specs.declared.words.Neck.TheVariants as neck
 use Rattle.clause_normal.specs.Words.{same, is_impure, is_choice_name, connective_of, neck_of}
-use Rattle.clause_normal.specs.Terms.{plain_list, occurrences}
+use Rattle.clause_variables.specs.Terms.{plain_list, occurrences}
 use Rattle.clause_normal.specs.Bodies.{Goal, Goals, call, choice, bad, no_goals, more_goals, joined, goals_row, named_goal, atom_goal, named_body, body_of, shape_body, argument_bodies}
 use Rattle.clause_normal.specs.Rules.{named, Call, Rule, choices, inner, calls, below, rules, after}
 use Rattle.clause_normal.specs.NormalForm.{Fault, Made, first_of, goals_fault, clause, clause_fault, head_fault, head_call, variables_fault, made_or_fault, with_form, named_form, form_of, and_next, normal_rules, normal_form}
@@ -23,7 +23,7 @@ use Rattle.clause_normal.specs.NormalForm.{program_of as program_or_fault}
 use Rattle.clause_normal.specs.Query.{named_goals, query_goals, argument_goals, bad_goal, query_fault, query_calls}
 use Rattle.clause_normal.specs.Definite.{Parted, no_clause, fact, rule, named_parts, parted, parts_fault, parted_fault, added_fault, AreDefinite, parts_rule, rules_of, program_of}
 use Rattle.clause_normal.proofs.KindLemmas.{length-plain}
-use Rattle.clause_normal.proofs.ListLemmas.{all_append}
+use Rattle.clause_variables.proofs.ListLemmas.{all_append}
 
 -- two faults are none
 pub both_none : (f g : Option Fault) → first_of f g ≡ None → (f ≡ None) × (g ≡ None)

@@ -22,7 +22,7 @@ use Rattle.clause_normal.specs.declared.fault.NormKind.TheVariants as kind
 use Rattle.clause_normal.specs.declared.words.Connective.{Connective}
 use Rattle.clause_normal.specs.declared.words.Connective.TheVariants as connective
 use Rattle.clause_normal.specs.Words.{same, is_impure, is_choice_name, connective_of, builtin_of}
-use Rattle.clause_normal.specs.Terms.{plain_list, renumbered}
+use Rattle.clause_variables.specs.Terms.{plain_list, renumbered}
 use Rattle.clause_normal.specs.Bodies.{Goal, call, choice, bad, named_goal, atom_goal}
 use Rattle.clause_normal.specs.ChoiceNames.{HasOperations}
 use Rattle.clause_normal.specs.Rules.{Functor, named, chosen, Call, Rule}
@@ -33,7 +33,7 @@ use Rattle.clause_normal.specs.Definite.{Parted, no_clause, fact, rule, parted, 
 use Rattle.clause_normal.proofs.DefiniteLater.{AreKnownParts, parted_known, rules_of_stay}
 use Rattle.clause_normal.proofs.DefiniteLemmas.{both_none}
 use Rattle.clause_normal.proofs.Later.{text_stays}
-use Rattle.clause_normal.proofs.ListLemmas.{all_append}
+use Rattle.clause_variables.proofs.ListLemmas.{all_append}
 
 -- ---- what is called has a known name
 

@@ -15,11 +15,11 @@ use Rattle.clause_normal.specs.declared.rule.Rule.{Rule as CodeRule}
 use Rattle.clause_normal.specs.declared.words.Connective.{Connective}
 use Rattle.clause_normal.specs.declared.words.Connective.TheVariants as connective
 use Rattle.clause_normal.specs.Words.{is_impure, is_choice_name, connective_of}
-use Rattle.clause_normal.specs.Terms.{plain_list, occurrences}
+use Rattle.clause_variables.specs.Terms.{plain_list, occurrences}
 use Rattle.clause_normal.specs.Bodies.{Goal, Goals, Branches, call, choice, bad, no_goals, more_goals, no_branches, more_branches, one_goal, joined, joined_branches, arguments, Body, of_goals, named_goal, atom_goal, disjunction, named_body, body_of, shape_body, argument_bodies}
 use Rattle.clause_normal.specs.Rules.{Functor, named, chosen, Call, Rule, choice_call, choices_at, choices, inner, inner_at, within, call_at, calls, below, below_at, branch_rules, rules}
 use Rattle.clause_normal.specs.RuleViews.{functor_of, call_of, rule_of, FunctorIsFit, CallIsFit, RuleIsFit}
-use Rattle.clause_normal.proofs.ListLemmas.{all_append}
+use Rattle.clause_variables.proofs.ListLemmas.{all_append}
 
 abbrev mutual
   -- how much there is to do for goals

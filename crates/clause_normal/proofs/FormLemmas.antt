@@ -13,13 +13,13 @@ use Rattle.clause_normal.specs.declared.fault.NormKind.TheVariants as kind
 use Rattle.clause_normal.specs.declared.words.Neck.{Neck}
 use Rattle.clause_normal.specs.declared.words.Neck.TheVariants as neck
 use Rattle.clause_normal.specs.Words.{neck_of, is_silent}
-use Rattle.clause_normal.specs.Terms.{occurrences, list_variables}
+use Rattle.clause_variables.specs.Terms.{occurrences, list_variables}
 use Rattle.clause_normal.specs.NormalForm.{skipped, refused, is_silent_goal, named_form, form_of, named_head_fault, head_fault, head_call}
 use Rattle.clause_normal.specs.Definite.{named_parts, parted}
 use Rattle.clause_normal.specs.Rules.{named}
-use Rattle.clause_normal.specs.Views.{plain_of}
+use Rattle.clause_variables.specs.TermViews.{plain_of}
 use Rattle.clause_normal.proofs.PartLemmas.{plain_list_row}
-use Rattle.clause_normal.proofs.TermLemmas.{occurrences_fun}
+use Rattle.clause_variables.proofs.TermLemmas.{occurrences_fun}
 
 -- how many arguments a directive and a rule have
 pub one_of_directive : (text : List ℕ) (n : ℕ) → neck_of text n ≡ neck.Directive → n ≡ 1

@@ -25,12 +25,13 @@ use Rattle.clause_normal.specs.Numbering.{choice_text, is_equality, kind_of_pred
 use Rattle.clause_normal.specs.declared.rule.Call.{Call as CodeCall}
 use Rattle.clause_normal.specs.declared.rule.Functor.{Functor as CodeFunctor}
 use Rattle.clause_normal.specs.declared.rule.Functor.TheVariants as functor
-use Rattle.clause_normal.specs.RuleViews.{functor_of, args_of, call_of, FunctorIsFit, CallIsFit}
+use Rattle.clause_variables.specs.TermViews.{args_of}
+use Rattle.clause_normal.specs.RuleViews.{functor_of, call_of, FunctorIsFit, CallIsFit}
 use Rattle.clause_normal.specs.Rules.{Call, Rule, choice_call, choices, choices_at, inner, inner_at, calls, below, below_at, branch_rules, rules, after}
-use Rattle.clause_normal.specs.Terms.{plain_list}
+use Rattle.clause_variables.specs.Terms.{plain_list}
 use Rattle.clause_normal.specs.Words.{is_impure, is_name, builtin_named, builtin_of}
 use Rattle.clause_normal.proofs.Later.{text_stays}
-use Rattle.clause_normal.proofs.ListLemmas.{all_append}
+use Rattle.clause_variables.proofs.ListLemmas.{all_append}
 use Rattle.clause_normal.proofs.NumberingLemmas.{some_within}
 
 -- the kind of another number stands after the first

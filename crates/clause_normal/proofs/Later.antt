@@ -15,7 +15,7 @@ use Rattle.clause_normal.specs.declared.words.Neck.TheVariants as neck
 use Rattle.clause_normal.specs.Words.{connective_of, is_silent, neck_of}
 use Rattle.clause_normal.specs.Rules.{Rule, rules, after}
 use Rattle.clause_normal.specs.NormalForm.{Fault, Form, Made, skipped, refused, clause, first_of, goals_fault, variables_fault, named_head_fault, head_fault, head_call, is_silent_goal, named_form, form_of, made_or_fault, with_form, with_clause, and_next, normal_rules}
-use Rattle.clause_normal.specs.Terms.{plain_list, occurrences}
+use Rattle.clause_variables.specs.Terms.{plain_list, occurrences}
 use Rattle.clause_normal.specs.Bodies.{Goal, Body, of_goals, one_goal, named_goal, atom_goal, named_body, body_of, shape_body, argument_bodies}
 
 module _ (names later : List (List ℕ)) (ext : Extends names later) where

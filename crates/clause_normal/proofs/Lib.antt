@@ -1,13 +1,8 @@
 mod Examples
 pub mod PartLemmas
-pub mod TermLemmas
-pub mod OrderLemmas
-pub mod ListLemmas
 pub mod BodyLemmas
 pub mod OutlineLemmas
-pub mod OccurringLemmas
 pub mod FitLemmas
-pub mod CopyLemmas
 pub mod Later
 pub mod NumberingLemmas
 pub mod KindLemmas

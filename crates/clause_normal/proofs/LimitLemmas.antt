@@ -16,14 +16,15 @@ use Rattle.clause_normal.specs.declared.words.Connective.TheVariants as connecti
 use Rattle.clause_normal.specs.declared.words.Neck.{Neck}
 use Rattle.clause_normal.specs.declared.words.Neck.TheVariants as neck
 use Rattle.clause_normal.specs.Words.{is_impure, is_choice_name, connective_of, neck_of}
-use Rattle.clause_normal.specs.Terms.{plain, plain_shape, plain_terms, plain_list, variables, all_variables, list_variables, occurrences, is_among, with_number, with_numbers, firsts}
-use Rattle.clause_normal.specs.Bodies.{Goal, Goals, Branches, call, choice, bad, no_goals, more_goals, no_branches, more_branches, one_goal, joined, joined_branches, count, arguments, Body, of_goals, atom_goal, choice_goal, disjunction, named_body, body_of, shape_body, argument_bodies}
+use Rattle.clause_variables.specs.Terms.{plain, plain_shape, plain_terms, plain_list, variables, all_variables, list_variables, occurrences, is_among, with_number, with_numbers, firsts}
+use Rattle.clause_variables.specs.Terms.{count}
+use Rattle.clause_normal.specs.Bodies.{Goal, Goals, Branches, call, choice, bad, no_goals, more_goals, no_branches, more_branches, one_goal, joined, joined_branches, arguments, Body, of_goals, atom_goal, choice_goal, disjunction, named_body, body_of, shape_body, argument_bodies}
 use Rattle.clause_normal.specs.Rules.{Call, Rule, choice_call, choices_at, choices, inner, inner_at, call_at, calls, below, below_at, branch_rules, rules, after}
 use Rattle.clause_normal.specs.Numbering.{call_variables}
 use Rattle.clause_normal.specs.NormalForm.{Fault, first_of, goals_fault, head_fault, head_call, variables_fault, Form, skipped, refused, clause, is_silent_goal, named_form, form_of, clause_fault, Made, made_or_fault, with_form, with_clause, and_next, normal_rules}
 use Rattle.clause_normal.specs.Small.{call_nodes, IsSmall}
 use Rattle.clause_normal.proofs.NumberingLemmas.{variables_of_variables}
-use Rattle.clause_normal.proofs.OrderLemmas.{all_firsts, all_filter}
+use Rattle.clause_variables.proofs.OrderLemmas.{all_firsts, all_filter}
 
 -- ---- numbers that are among others
 

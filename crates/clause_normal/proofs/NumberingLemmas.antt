@@ -12,7 +12,7 @@ use Rattle.cti_terms.specs.declared.atom_list.Atom.{Atom}
 use Rattle.cti_terms.specs.declared.predicates.Pred.{Pred}
 use Rattle.prolog_reader.specs.Names.{Extends}
 use Rattle.prolog_reader.proofs.NameLemmas.{Placed, placed}
-use Rattle.clause_normal.specs.Terms.{variables, all_variables, list_variables, is_among, with_number, with_numbers, renumbered}
+use Rattle.clause_variables.specs.Terms.{variables, all_variables, list_variables, is_among, with_number, with_numbers, renumbered}
 use Rattle.clause_normal.specs.declared.rule.Call.{Call as CodeCall}
 use Rattle.clause_normal.specs.declared.rule.Functor.{Functor as CodeFunctor}
 use Rattle.clause_normal.specs.declared.rule.Functor.TheVariants as functor
@@ -20,7 +20,7 @@ use Rattle.clause_normal.specs.declared.rule.Rule.{Rule as CodeRule}
 use Rattle.clause_normal.specs.RuleViews.{FunctorIsFit, CallIsFit, RuleIsFit}
 use Rattle.clause_normal.specs.Rules.{Call}
 use Rattle.clause_normal.specs.Numbering.{call_variables, atoms_after, pred_of, is_equality, equality_clause, with_equality_clause, with_equality, HasArity}
-use Rattle.clause_normal.proofs.ListLemmas.{all_append, all_front, all_back}
+use Rattle.clause_variables.proofs.ListLemmas.{all_append, all_front, all_back}
 
 pub all_weaker : {X : Type 0} (P Q : X → Type 0) → ((x : X) → P x → Q x) → (xs : List X) → AllByRecursion P xs → AllByRecursion Q xs
 all_weaker P Q f [] h = tt

@@ -11,7 +11,7 @@ use Rattle.clause_normal.specs.Bodies.{Branches, more_goals, one_goal, joined, m
 use Rattle.clause_normal.specs.Outlines.{Piece, Pieces, plain, either, pieces_row, outlines_row, piece_own, pieces_own, piece_goal, pieces_goals, PieceBelow, PiecesBelow}
 use Rattle.clause_normal.specs.OutlineViews.{piece_step, outline_step, piece_of, outline_of, goal_of, goals_in, own_in, branches_in, outline_goals, PieceIsBelow, PiecesAreBelow, OutlinesAreBelow, OutlineIsBelow}
 use Rattle.clause_normal.specs.Views.{item_goal}
-use Rattle.clause_normal.proofs.ListLemmas.{all_append}
+use Rattle.clause_variables.proofs.ListLemmas.{all_append}
 
 -- each piece of the code as a plain one
 pub piece_plain : (i : Item) (own : Bor (List ℕ)) → piece_of (Plain i own) ≡ plain (item_goal i) own.now

@@ -14,10 +14,11 @@ use Rattle.prolog_reader.proofs.ViewLemmas.{tree_of_fun, arity_terms}
 use Rattle.clause_normal.specs.declared.words.Connective.{Connective}
 use Rattle.clause_normal.specs.declared.words.Connective.TheVariants as connective
 use Rattle.clause_normal.specs.Words.{connective_of}
-use Rattle.clause_normal.specs.Terms.{plain_list, occurrences}
+use Rattle.clause_variables.specs.Terms.{plain_list, occurrences}
 use Rattle.clause_normal.specs.Bodies.{Goal, Goals, Branches, atom_goal, named_goal, Body, of_goals, named_body, disjunction, choice_goal, arguments, argument_bodies, body_of, one_goal, one_branch, no_goals, joined, joined_branches}
 use Rattle.clause_normal.specs.Query.{query_goals, argument_goals, named_goals}
-use Rattle.clause_normal.specs.Views.{plain_of, item_goal, goals_of, branches_of, IsBranch, IsPart}
+use Rattle.clause_variables.specs.TermViews.{plain_of}
+use Rattle.clause_normal.specs.Views.{item_goal, goals_of, branches_of, IsBranch, IsPart}
 use Rattle.clause_normal.specs.declared.part.Part.TheVariants as part
 use Rattle.clause_normal.specs.declared.part.Item.{Item}
 

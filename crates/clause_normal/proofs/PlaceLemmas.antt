@@ -18,7 +18,7 @@ use Rattle.clause_normal.specs.declared.words.Connective.TheVariants as connecti
 use Rattle.clause_normal.specs.declared.words.Neck.{Neck}
 use Rattle.clause_normal.specs.declared.words.Neck.TheVariants as neck
 use Rattle.clause_normal.specs.Words.{is_impure, is_choice_name, is_reserved, connective_of, neck_of}
-use Rattle.clause_normal.specs.Terms.{plain_list, occurrences, firsts}
+use Rattle.clause_variables.specs.Terms.{plain_list, occurrences, firsts}
 use Rattle.clause_normal.specs.Bodies.{Goal, Goals, Branches, call, choice, bad, no_goals, more_goals, no_branches, more_branches, one_goal, joined, joined_branches, arguments, Body, of_goals, named_goal, atom_goal, choice_goal, disjunction, named_body, body_of, shape_body, argument_bodies}
 use Rattle.clause_normal.specs.Rules.{Call, Rule, rules, after}
 use Rattle.clause_normal.specs.NormalForm.{Fault, first_of, goals_fault, goal_fault, branches_fault, head_fault, head_call, variables_fault, Form, skipped, refused, clause, is_silent_goal, named_form, form_of, clause_fault, Made, made_or_fault, with_form, with_clause, and_next, normal_rules, program_of, normal_form}

@@ -9,7 +9,7 @@ use Rattle.prolog_terms.specs.Clauses.{Clause, arity, place, nodes}
 use Rattle.clause_normal.specs.declared.words.Connective.{Connective}
 use Rattle.clause_normal.specs.declared.words.Connective.TheVariants as connective
 use Rattle.clause_normal.specs.Words.{connective_of}
-use Rattle.clause_normal.specs.Terms.{occurrences, firsts}
+use Rattle.clause_variables.specs.Terms.{occurrences, firsts}
 use Rattle.clause_normal.specs.Bodies.{Goal, call, choice, bad, atom_goal}
 use Rattle.clause_normal.specs.Rules.{Call}
 use Rattle.clause_normal.specs.Numbering.{call_variables}

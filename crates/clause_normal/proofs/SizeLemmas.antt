@@ -20,7 +20,7 @@ use Rattle.clause_normal.specs.declared.words.Connective.TheVariants as connecti
 use Rattle.clause_normal.specs.declared.words.Neck.{Neck}
 use Rattle.clause_normal.specs.declared.words.Neck.TheVariants as neck
 use Rattle.clause_normal.specs.Words.{is_impure, is_choice_name, connective_of, neck_of}
-use Rattle.clause_normal.specs.Terms.{plain_list, occurrences}
+use Rattle.clause_variables.specs.Terms.{plain_list, occurrences}
 use Rattle.clause_normal.specs.Bodies.{Goal, Goals, Branches, call, choice, bad, no_goals, more_goals, no_branches, more_branches, one_goal, joined, joined_branches, arguments, Body, of_goals, named_goal, atom_goal, choice_goal, disjunction, named_body, body_of, shape_body, argument_bodies}
 use Rattle.clause_normal.specs.Rules.{Functor, named, chosen, Call, Rule, choice_call, choices_at, choices, inner, inner_at, call_at, calls, below, below_at, branch_rules, rules, after}
 use Rattle.clause_normal.specs.Numbering.{empty_program, operation_texts, pred_of, with_calls, with_rule, with_rules}

@@ -6,7 +6,7 @@
 -- that occur elsewhere in the clause that is made. The clause of a branch has that predicate as its head.
 --
 -- To believe: all of this file.
-use Rattle.std.specs.Prelude.{ℕ, ◌||◌, nat_eq, nat_lt, List, [], ◌∷◌, ◌++◌, count_by, filter, length, if◌then◌else◌}
+use Rattle.std.specs.Prelude.{ℕ, ◌||◌, nat_lt, List, [], ◌∷◌, ◌++◌, filter, length, if◌then◌else◌}
 use Rattle.cti_terms.specs.Tree.{Tree as Term}
 use Rattle.prolog_grammar.specs.Placed.{Tree, tree, Shape, Var, Int, Fun, Trees, no_trees, more_trees}
 use Rattle.prolog_reader.specs.Names.{name_text}
@@ -14,7 +14,7 @@ use Rattle.prolog_terms.specs.Clauses.{arity}
 use Rattle.cti_terms.specs.declared.limits.TheConstants.{MOST_ARGUMENTS}
 use Rattle.clause_normal.specs.declared.fault.NormKind.{NormKind}
 use Rattle.clause_normal.specs.declared.fault.NormKind.TheVariants as kind
-use Rattle.clause_normal.specs.Terms.{plain_list, occurrences, firsts}
+use Rattle.clause_variables.specs.Terms.{plain_list, occurrences, count, firsts}
 use Rattle.clause_normal.specs.Words.{is_impure, is_choice_name, connective_of}
 use Rattle.clause_normal.specs.declared.words.Connective.{Connective}
 use Rattle.clause_normal.specs.declared.words.Connective.TheVariants as connective
@@ -58,10 +58,6 @@ joined (more_goals g gs) hs = more_goals g (joined gs hs)
 abbrev pub joined_branches : Branches → Branches → Branches
 joined_branches no_branches cs = cs
 joined_branches (more_branches b bs) cs = more_branches b (joined_branches bs cs)
-
--- how often a variable is among these
-abbrev pub count : List ℕ → ℕ → ℕ
-count xs x = count_by (nat_eq x) xs
 
 -- The arguments of a disjunction's predicate, where the clause has the variables `all` and the disjunction `own`, as often as they
 -- occur: those of its own that occur more often in the clause, each once, in order of first occurrence.

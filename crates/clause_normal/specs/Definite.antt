@@ -18,7 +18,7 @@ use Rattle.clause_normal.specs.declared.fault.NormKind.TheVariants as kind
 use Rattle.clause_normal.specs.declared.words.Neck.{Neck}
 use Rattle.clause_normal.specs.declared.words.Neck.TheVariants as neck
 use Rattle.clause_normal.specs.Words.{neck_of}
-use Rattle.clause_normal.specs.Terms.{occurrences}
+use Rattle.clause_variables.specs.Terms.{occurrences}
 use Rattle.clause_normal.specs.Rules.{Rule}
 use Rattle.clause_normal.specs.NormalForm.{Fault, first_of, head_fault, head_call, variables_fault}
 use Rattle.clause_normal.specs.Numbering.{empty_program, with_rules, with_equality}

@@ -11,7 +11,7 @@ use Rattle.clause_normal.specs.declared.rule.Call.{Call as CodeCall}
 use Rattle.clause_normal.specs.Bodies.{no_goals}
 use Rattle.clause_normal.specs.NormalForm.{form_of, skipped, refused, clause, head_fault, head_call}
 use Rattle.clause_normal.specs.RuleViews.{call_of, CallIsFit}
-use Rattle.clause_normal.specs.Terms.{occurrences}
+use Rattle.clause_variables.specs.Terms.{occurrences}
 use Rattle.clause_normal.specs.Views.{goals_of, IsTermFit}
 
 -- the term is of that form

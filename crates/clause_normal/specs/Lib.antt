@@ -1,5 +1,4 @@
 pub mod Words
-pub mod Terms
 pub mod Bodies
 pub mod Rules
 pub mod Numbering
@@ -10,7 +9,6 @@ pub mod Views
 pub mod Outlines
 pub mod OutlineViews
 pub mod Stacks
-pub mod Occurring
 pub mod RuleViews
 pub mod FormViews
 pub mod Faults

@@ -14,7 +14,7 @@ use Rattle.prolog_terms.specs.Clauses.{Clause, arity, place, list_of}
 use Rattle.clause_normal.specs.declared.limits.TheConstants.{MOST_TEXT_CLAUSES}
 use Rattle.clause_normal.specs.declared.fault.NormKind.{NormKind}
 use Rattle.clause_normal.specs.declared.fault.NormKind.TheVariants as kind
-use Rattle.clause_normal.specs.Terms.{plain_list, occurrences, firsts}
+use Rattle.clause_variables.specs.Terms.{plain_list, occurrences, firsts}
 use Rattle.clause_normal.specs.Words.{is_reserved, is_silent, neck_of}
 use Rattle.clause_normal.specs.declared.words.Neck.{Neck}
 use Rattle.clause_normal.specs.declared.words.Neck.TheVariants as neck

@@ -15,7 +15,7 @@ use Rattle.cti_terms.specs.declared.clauses.Clause.{Clause}
 use Rattle.cti_terms.specs.declared.predicates.Pred.{Pred}
 use Rattle.cti_terms.specs.declared.predicates.PredId.{PredId}
 use Rattle.prolog_reader.specs.Names.{name_text}
-use Rattle.clause_normal.specs.Terms.{list_variables, firsts, renumbered}
+use Rattle.clause_variables.specs.Terms.{list_variables, firsts, renumbered}
 use Rattle.clause_normal.specs.Words.{is_name, builtin_of}
 use Rattle.clause_normal.specs.Rules.{Functor, named, chosen, Call, Rule}
 

@@ -17,7 +17,7 @@ use Rattle.prolog_reader.specs.Names.{name_text}
 use Rattle.clause_normal.specs.declared.words.Connective.{Connective}
 use Rattle.clause_normal.specs.declared.words.Connective.TheVariants as connective
 use Rattle.clause_normal.specs.Words.{connective_of}
-use Rattle.clause_normal.specs.Terms.{occurrences, firsts}
+use Rattle.clause_variables.specs.Terms.{occurrences, firsts}
 use Rattle.clause_normal.specs.Rules.{named, Call}
 use Rattle.clause_normal.specs.Bodies.{Goal, call, choice, bad, atom_goal}
 use Rattle.clause_normal.specs.NormalForm.{Fault, first_of, variables_fault}

@@ -2,23 +2,16 @@
 -- Clauses of the code as those of the definitions. Nothing here has to be believed.
 use Rattle.std.specs.Prelude.{◌<◌, ◌≤◌, ℕ, List, map, length}
 use Rattle.std.specs.List.{AllByRecursion}
-use Rattle.cti_terms.specs.Tree.{Tree as Term, Variable}
 use Rattle.clause_normal.specs.declared.rule.Functor.{Functor as CodeFunctor}
 use Rattle.clause_normal.specs.declared.rule.Functor.TheVariants as functor
-use Rattle.clause_normal.specs.declared.rule.Args.{Args}
-use Rattle.clause_normal.specs.declared.rule.Args.TheVariants as args
 use Rattle.clause_normal.specs.declared.rule.Call.{Call as CodeCall}
 use Rattle.clause_normal.specs.declared.rule.Rule.{Rule as CodeRule}
 use Rattle.clause_normal.specs.Rules.{Functor, named, chosen, Call, Rule}
-use Rattle.clause_normal.specs.Views.{plain_of}
+use Rattle.clause_variables.specs.TermViews.{args_of}
 
 abbrev pub functor_of : CodeFunctor → Functor
 functor_of (functor.Named f) = named f.0
 functor_of (functor.Chosen m) = chosen m
-
-abbrev pub args_of : Args → List Term
-args_of (args.Terms ts) = map plain_of ts.now
-args_of (args.Variables xs) = map Variable xs.items
 
 abbrev pub call_of : CodeCall → Call
 call_of c = record { functor = functor_of c.functor; args = args_of c.args }

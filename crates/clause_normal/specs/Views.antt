@@ -1,7 +1,6 @@
 -- Private.
 -- What the parts of the code stand for. Nothing here has to be believed.
 use Rattle.std.specs.Prelude.{◌≡◌, ◌<◌, ◌≤◌, ◌+◌, ℕ, IsTrue, List, [], ◌∷◌, ◌++◌, map, length}
-use Rattle.cti_terms.specs.Tree.{Tree as Term}
 use Rattle.prolog_terms.specs.declared.term.ReadTerm.{ReadTerm}
 use Rattle.prolog_terms.specs.Clauses.{is_known, is_below, nodes}
 use Rattle.prolog_terms.specs.Terms.{tree_of}
@@ -9,13 +8,10 @@ use Rattle.clause_normal.specs.declared.part.Item.{Item}
 use Rattle.clause_normal.specs.declared.part.Item.TheVariants as item
 use Rattle.clause_normal.specs.declared.part.Part.{Part}
 use Rattle.clause_normal.specs.declared.part.Part.TheVariants as part
-use Rattle.clause_normal.specs.Terms.{plain, occurrences}
+use Rattle.clause_variables.specs.Terms.{occurrences}
+use Rattle.clause_variables.specs.TermViews.{plain_of}
 use Rattle.clause_normal.specs.Bodies.{Goal, Goals, Branches, call, bad, no_goals, one_goal, one_branch, joined, joined_branches, arguments, choice_goal, atom_goal, body_of}
 use Rattle.clause_normal.specs.Query.{query_goals}
-
--- a term of the code without its places
-abbrev pub plain_of : ReadTerm → Term
-plain_of t = plain (tree_of t)
 
 -- the goals of a term of the code, and the branches
 abbrev pub goals_of : List (List ℕ) → ReadTerm → List ℕ → Goals

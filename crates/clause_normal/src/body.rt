@@ -5,15 +5,14 @@ ghost use Rattle.std.specs.List.{AllByRecursion};
 ghost use Rattle.clause_normal.specs.Bodies.{arguments, choice_goal, goals_row};
 ghost use Rattle.clause_normal.specs.Outlines.{piece_goal, piece_own};
 ghost use Rattle.clause_normal.specs.OutlineViews.{piece_of, goal_of, goals_in, own_in, branches_in, outline_goals, GoalIsBelow, OutlineIsBelow, OutlinesAreBelow, PieceIsBelow, PiecesAreBelow};
-ghost use Rattle.clause_normal.specs.Occurring.{AreNoted, HasSize};
-ghost use Rattle.clause_normal.specs.Terms.{firsts, is_among};
+ghost use Rattle.clause_variables.specs.Occurring.{AreNoted, HasSize};
+ghost use Rattle.clause_variables.specs.Terms.{firsts, is_among};
 
 use crate::fault::NormKind;
 use crate::goal::Goal;
-use crate::order::is_among;
 use crate::outline::{Outline, Piece};
 use crate::part::Item;
-use crate::places::Places;
+use clause_variables::{Places, is_among};
 use cti_terms::MOST_ARGUMENTS;
 use std::alloc::{AllocError, Global};
 

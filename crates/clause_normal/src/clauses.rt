@@ -12,7 +12,7 @@ ghost use Rattle.clause_normal.specs.NormalForm.{goals_fault, variables_fault, w
 ghost use Rattle.clause_normal.specs.Bodies.{no_goals};
 ghost use Rattle.clause_normal.specs.Rules.{after, rules};
 ghost use Rattle.clause_normal.specs.RuleViews.{call_of, rule_of, RuleIsFit};
-ghost use Rattle.clause_normal.specs.Terms.{firsts, occurrences};
+ghost use Rattle.clause_variables.specs.Terms.{firsts, occurrences};
 ghost use Rattle.clause_normal.specs.declared.fault.NormKind.TheVariants.{ManyClauses};
 ghost use Rattle.clause_normal.specs.Views.{goals_of, IsTermFit};
 
@@ -20,11 +20,9 @@ use crate::fault::{NormFault, NormKind};
 use crate::forms::{Form, form_of, head_of};
 use crate::limits::MOST_TEXT_CLAUSES;
 use crate::making::add_rules;
-use crate::order::firsts;
 use crate::outlining::outlined;
-use crate::places::Places;
 use crate::rule::{Call, Rule};
-use crate::variables::term_variables;
+use clause_variables::{Places, firsts, term_variables};
 use cti_terms::{MOST_VARIABLES, Names};
 use prolog_reader::{ReadClause, ReadTerm};
 use std::alloc::{AllocError, Global};

@@ -9,8 +9,9 @@ ghost use Rattle.clause_normal.specs.NormalForm.{is_silent_goal, named_head_faul
 
 use crate::fault::NormKind;
 use crate::part::sides;
-use crate::rule::{Args, Call, Functor};
+use crate::rule::{Call, Functor};
 use crate::words::{Neck, is_reserved, is_silent, neck_of, text_of};
+use clause_variables::Args;
 use cti_terms::{MOST_ARGUMENTS, Names};
 use prolog_reader::{ReadShape, ReadTerm};
 

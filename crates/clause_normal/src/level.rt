@@ -8,7 +8,8 @@ ghost use Rattle.clause_normal.specs.RuleViews.{call_of};
 
 use crate::goal::Goal;
 use crate::part::Item;
-use crate::rule::{Args, Call, Functor};
+use crate::rule::{Call, Functor};
+use clause_variables::Args;
 use std::alloc::{AllocError, Global};
 
 /// The call of the predicate of a disjunction.

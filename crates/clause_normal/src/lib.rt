@@ -3,12 +3,11 @@
 //! A body is a conjunction of calls, and each disjunction becomes a predicate of its own, whose clauses are its branches.
 //! `specs/NormalForm.antt` says which program that is and which fault comes first, and `specs/Query.antt` the same of queries.
 //! `specs/Definite.antt` says it of clauses without disjunctions, one at a time, so that they may come and go.
-//! Depends on `cti_terms` for programs, `prolog_reader` for clauses with places, and `thiserror`.
+//! Depends on `clause_variables` for the variables of clauses, `cti_terms` for programs, `prolog_reader` for clauses with places, and `thiserror`.
 #![tactic(auto)]
 
 mod body;
 mod clauses;
-mod copying;
 mod definite;
 mod fault;
 mod forms;
@@ -19,15 +18,12 @@ mod limits;
 mod making;
 mod numbering;
 mod operations;
-mod order;
 mod outline;
 mod outlining;
 mod part;
-mod places;
 mod query;
 mod rule;
 mod text_program;
-mod variables;
 mod words;
 
 pub use definite::{check_added, definite_program};
@@ -36,3 +32,4 @@ pub use forms::is_silent_goal;
 pub use limits::MOST_TEXT_CLAUSES;
 pub use query::normal_query;
 pub use text_program::normal;
+pub use words::Neck;

@@ -8,7 +8,7 @@ ghost use Rattle.clause_normal.specs.NormalForm.{goals_fault, goal_fault, branch
 ghost use Rattle.clause_normal.specs.OutlineViews.{goal_of, branches_in, outline_goals, GoalIsBelow, OutlineIsBelow, OutlinesAreBelow};
 ghost use Rattle.clause_normal.specs.Rules.{rules, after, below, below_at, branch_rules, calls, choice_call, choices, choices_at, inner, inner_at, within};
 ghost use Rattle.clause_normal.specs.RuleViews.{call_of, rule_of};
-ghost use Rattle.clause_normal.specs.Occurring.{HasSize};
+ghost use Rattle.clause_variables.specs.Occurring.{HasSize};
 
 use crate::body::body_goals;
 use crate::fault::NormFault;
@@ -16,8 +16,8 @@ use crate::goal::Goal;
 use crate::level::{choice_call, level_of};
 use crate::outline::Outline;
 use crate::part::Item;
-use crate::places::Places;
 use crate::rule::{Call, Rule};
+use clause_variables::Places;
 use std::alloc::{AllocError, Global};
 
 /// How many disjunctions a goal is, those in it aside.

@@ -9,15 +9,14 @@ ghost use Rattle.prolog_reader.specs.Naming.{with_names};
 ghost use Rattle.clause_normal.specs.ChoiceNames.{functor_texts, call_texts};
 ghost use Rattle.clause_normal.specs.Numbering.{name_number, pred_of, kind_of_pred, arithmetic_of, atom_after, atoms_after, with_calls, call_variables, with_rule, HasArity};
 ghost use Rattle.clause_normal.specs.Kinds.{functor_text, with_kind, IsOrdinaryCall, HasOrdinary};
-ghost use Rattle.clause_normal.specs.RuleViews.{functor_of, args_of, call_of, rule_of, IsNamed, RuleIsNamed, CallIsFit, FunctorIsFit, RuleIsFit};
+ghost use Rattle.clause_variables.specs.TermViews.{args_of};
+ghost use Rattle.clause_normal.specs.RuleViews.{functor_of, call_of, rule_of, IsNamed, RuleIsNamed, CallIsFit, FunctorIsFit, RuleIsFit};
 ghost use Rattle.clause_normal.specs.declared.rule.Call.{Call as TheCall};
-ghost use Rattle.clause_normal.specs.Terms.{list_variables};
+ghost use Rattle.clause_variables.specs.Terms.{list_variables};
 
-use crate::copying::copied_args;
-use crate::order::firsts;
-use crate::rule::{Args, Call, Functor, Rule};
-use crate::variables::add_variables;
+use crate::rule::{Call, Functor, Rule};
 use crate::words::{builtin_of, text_of};
+use clause_variables::{Args, add_variables, copied_args, firsts};
 use cti_terms::{
     Atom, Atoms, Builtin, Clause, MOST_ATOMS, MOST_CLAUSES, MOST_NODES, MOST_VARIABLES, Name,
     Names, PredId, Program,

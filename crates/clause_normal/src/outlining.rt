@@ -6,12 +6,12 @@ ghost use Rattle.prolog_terms.specs.Clauses.{is_known};
 ghost use Rattle.prolog_terms.specs.Terms.{tree_of};
 ghost use Rattle.clause_normal.specs.Bodies.{arguments, choice_goal, joined, joined_branches, one_goal};
 ghost use Rattle.clause_normal.specs.OutlineViews.{goals_in, own_in, branches_in, outline_goals, PiecesAreBelow, OutlinesAreBelow, OutlineIsBelow};
-ghost use Rattle.clause_normal.specs.Terms.{occurrences};
+ghost use Rattle.clause_variables.specs.Terms.{occurrences};
 ghost use Rattle.clause_normal.specs.Views.{goals_of, branches_of};
 
 use crate::outline::{Outline, Piece};
 use crate::part::{Part, part_of};
-use crate::variables::term_variables;
+use clause_variables::term_variables;
 use cti_terms::Names;
 use prolog_reader::ReadTerm;
 use std::alloc::{AllocError, Global};

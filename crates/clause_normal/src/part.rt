@@ -4,7 +4,8 @@ ghost use Rattle.std.specs.Prelude.{◌≡◌, ◌<◌, ℕ, IsTrue, [], ◌∷�
 ghost use Rattle.prolog_terms.specs.Clauses.{is_known};
 ghost use Rattle.prolog_terms.specs.Terms.{tree_of};
 ghost use Rattle.clause_normal.specs.Bodies.{atom_goal, named_goal};
-ghost use Rattle.clause_normal.specs.Views.{item_goal, plain_of, IsPart, IsQueryPart, ItemIsFit, PartHasOwn, PartIsFit, PartIsSmaller};
+ghost use Rattle.clause_variables.specs.TermViews.{plain_of};
+ghost use Rattle.clause_normal.specs.Views.{item_goal, IsPart, IsQueryPart, ItemIsFit, PartHasOwn, PartIsFit, PartIsSmaller};
 
 use crate::fault::NormKind;
 use crate::words::{Connective, connective_of, is_choice_name, is_impure, text_of};

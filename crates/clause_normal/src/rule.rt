@@ -1,28 +1,13 @@
 //! Clauses before their predicates and variables are numbered.
 
+use clause_variables::Args;
 use cti_terms::Name;
-use prolog_reader::ReadTerm;
 
 /// What is called: a name, or the predicate of the disjunction of this number.
 #[derive(Clone, Copy)]
 pub(crate) enum Functor {
     Named(Name),
     Chosen(u64),
-}
-
-/// Arguments: terms of the text, or variables.
-pub(crate) enum Args<'a> {
-    Terms(&'a [ReadTerm]),
-    Variables(Vec<u32>),
-}
-
-impl Drop for Args<'_> {
-    fn drop(self) {
-        match self {
-            Args::Terms(_) => {}
-            Args::Variables(_) => {}
-        }
-    }
 }
 
 /// An atom before its predicate is numbered.

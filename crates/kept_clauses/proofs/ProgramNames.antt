@@ -16,7 +16,7 @@ use Rattle.prolog_operators.specs.Names.{name_text}
 use Rattle.prolog_operators.proofs.NameLemmas.{Placed, no_place, placed}
 use Rattle.prolog_grammar.specs.Placed.{Tree}
 use Rattle.linear_rows.specs.Members.{In}
-use Rattle.clause_normal.specs.Terms.{renumbered}
+use Rattle.clause_variables.specs.Terms.{renumbered}
 use Rattle.clause_normal.specs.Words.{is_name}
 use Rattle.clause_normal.specs.Rules.{Call, Rule}
 use Rattle.clause_normal.specs.Numbering.{atom_after, atoms_after, empty_program, equality_clause, is_equality, order_of, pred_of, with_calls, with_equality_clause, with_rule, with_rules}

@@ -3,7 +3,7 @@ use Rattle.std.specs.List.{AllByRecursion}
 use Rattle.clause_normal.specs.declared.outline.Piece.{Piece as CodePiece}
 use Rattle.clause_normal.specs.Outlines.{PiecesBelow, pieces_row}
 use Rattle.clause_normal.specs.OutlineViews.{own_in, piece_of, GoalIsBelow}
-use Rattle.clause_normal.proofs.ListLemmas.{all_append}
+use Rattle.clause_variables.proofs.ListLemmas.{all_append}
 use Rattle.clause_normal.proofs.OutlineLemmas.{all_own_below, outline_parts}
 use Rattle.clause_normal.proofs.body.body_goals.Goals as goal
 

@@ -4,9 +4,9 @@ use Rattle.std.proofs.lemmas.Bool.{lt-ltb, le-ltb}
 use Rattle.clause_normal.specs.declared.fault.NormKind.TheVariants as kind
 use Rattle.clause_normal.specs.Bodies.{Branches, arguments, bad, choice, choice_goal}
 use Rattle.clause_normal.specs.OutlineViews.{branches_in}
-use Rattle.clause_normal.specs.Terms.{firsts}
-use Rattle.clause_normal.proofs.OccurringLemmas.{arguments_are}
-use Rattle.clause_normal.proofs.OrderLemmas.{all_firsts, all_filter}
+use Rattle.clause_variables.specs.Terms.{firsts}
+use Rattle.clause_variables.proofs.OccurringLemmas.{firsts_outside}
+use Rattle.clause_variables.proofs.OrderLemmas.{all_firsts, all_filter}
 use Rattle.clause_normal.proofs.body.choice_goal.Goals as goal
 
 -- few arguments, and many
@@ -24,7 +24,7 @@ returns-in-Some-clause-goal c = λ earlier later n k.
     let outside : ℕ → List ℕ = λ m. firsts (filter (λ x. nat_lt (slice_index fs x) m || nat_lt (m + length own) (slice_index es x)) own) in
     let h = rw c.in-Some.is at c.in_ok-args.ensures in
     let same : c.in-Some.args.items ≡ arguments (earlier ++ (own ++ later)) own =
-    h.0 ∙ ap outside (sym n) ∙ arguments_are earlier own later c.args.places.now k in
+    h.0 ∙ ap outside (sym n) ∙ firsts_outside earlier own later c.args.places.now k in
     let branches : List ℕ → Branches = branches_in c.args.branches.now.items in
     small c.args.at c.in-Some.args.items branches h.1 ∙ ap (λ (xs : List ℕ). choice_goal c.args.at xs branches) same
 
@@ -46,6 +46,6 @@ returns-in-None-clause-goal c = λ earlier later n k.
     let outside : ℕ → List ℕ = λ m. firsts (filter (λ x. nat_lt (slice_index fs x) m || nat_lt (m + length own) (slice_index es x)) own) in
     let h = rw c.in-None.is at c.in_ok-args.ensures in
     let same : outside c.args.start ≡ arguments (earlier ++ (own ++ later)) own =
-    ap outside (sym n) ∙ arguments_are earlier own later c.args.places.now k in
+    ap outside (sym n) ∙ firsts_outside earlier own later c.args.places.now k in
     let branches : List ℕ → Branches = branches_in c.args.branches.now.items in
     large c.args.at (outside c.args.start) branches h ∙ ap (λ (xs : List ℕ). choice_goal c.args.at xs branches) same

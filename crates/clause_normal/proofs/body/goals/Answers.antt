@@ -4,11 +4,11 @@ use Rattle.std.proofs.lemmas.List.{at_drop_more, drop_all}
 use Rattle.clause_normal.specs.Bodies.{Goals, goals_row, joined, one_goal, more_goals}
 use Rattle.clause_normal.specs.declared.goal.Goal.{Goal as CodeGoal}
 use Rattle.clause_normal.specs.declared.outline.Piece.{Piece as CodePiece}
-use Rattle.clause_normal.specs.Occurring.{AreNoted}
+use Rattle.clause_variables.specs.Occurring.{AreNoted}
 use Rattle.clause_normal.specs.Outlines.{Pieces, PiecesBelow, more_pieces, piece_goal, piece_own, pieces_own, pieces_goals, pieces_row}
 use Rattle.clause_normal.specs.OutlineViews.{goal_of, goals_in, own_in, piece_of, GoalIsBelow}
 use Rattle.clause_normal.proofs.BodyLemmas.{joined_assoc, joined_none}
-use Rattle.clause_normal.proofs.ListLemmas.{all_push}
+use Rattle.clause_variables.proofs.ListLemmas.{all_push}
 use Rattle.clause_normal.proofs.OutlineLemmas.{row_push}
 use Rattle.clause_normal.proofs.body.goals.Goals as goal
 

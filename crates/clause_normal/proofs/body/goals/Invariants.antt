@@ -1,7 +1,7 @@
 use Rattle.std.proofs.Common.{◌≡◌, ◌+◌, ◌++◌, ℕ, List, length, map, drop}
 use Rattle.std.specs.List.{AllByRecursion}
 use Rattle.clause_normal.specs.Bodies.{goals_row, joined}
-use Rattle.clause_normal.specs.Occurring.{AreNoted}
+use Rattle.clause_variables.specs.Occurring.{AreNoted}
 use Rattle.clause_normal.specs.OutlineViews.{goal_of, goals_in, own_in, GoalIsBelow, PiecesAreBelow}
 use Rattle.clause_normal.proofs.body.goals.Given as goal
 

@@ -1,6 +1,6 @@
 use Rattle.std.proofs.Common.{◌≡◌, ◌∙◌, ◌||◌, ◌&&◌, ℕ, Bool, List, true, nat_lt, not, length, get_or, slice_index, sym, ap, arith}
-use Rattle.clause_normal.specs.Terms.{is_among}
-use Rattle.clause_normal.proofs.OrderLemmas.{one_more}
+use Rattle.clause_variables.specs.Terms.{is_among}
+use Rattle.clause_variables.proofs.OrderLemmas.{one_more}
 use Rattle.clause_normal.proofs.body.shared.Goals as goal
 
 pub returns-then-len : goal.returns-then-len

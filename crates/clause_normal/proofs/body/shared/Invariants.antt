@@ -1,6 +1,6 @@
 use Rattle.std.proofs.Common.{◌≡◌, ◌≤◌, ◌||◌, ℕ, Bool, nat_lt, drop, length, slice_index}
 use Rattle.std.specs.List.{filter}
-use Rattle.clause_normal.specs.Terms.{firsts, with_numbers}
+use Rattle.clause_variables.specs.Terms.{firsts, with_numbers}
 use Rattle.clause_normal.proofs.body.shared.Given as goal
 
 abbrev pub invariant-own : goal.invariant-own

@@ -6,7 +6,7 @@ use Rattle.clause_normal.specs.declared.rule.Rule.{Rule as CodeRule}
 use Rattle.clause_normal.specs.NormalForm.{clause, goals_fault, head_call, head_fault, made_or_fault, variables_fault, with_form}
 use Rattle.clause_normal.specs.Rules.{Call, after, rules}
 use Rattle.clause_normal.specs.RuleViews.{rule_of}
-use Rattle.clause_normal.specs.Terms.{occurrences}
+use Rattle.clause_variables.specs.Terms.{occurrences}
 use Rattle.clause_normal.specs.Views.{goals_of}
 use Rattle.clause_normal.proofs.FitLemmas.{body_fit, made_fit}
 use Rattle.clause_normal.proofs.OutcomeLemmas.{by_count, count_fault, well}

@@ -3,7 +3,7 @@ use Rattle.std.specs.List.{AllByRecursion}
 use Rattle.prolog_terms.specs.Terms.{tree_of}
 use Rattle.clause_normal.specs.OutlineViews.{OutlineIsBelow}
 use Rattle.clause_normal.specs.Rules.{after}
-use Rattle.clause_normal.specs.Terms.{occurrences}
+use Rattle.clause_variables.specs.Terms.{occurrences}
 use Rattle.clause_normal.proofs.FitLemmas.{body_fit}
 use Rattle.clause_normal.proofs.clauses.add_with_variables.Goals as goal
 

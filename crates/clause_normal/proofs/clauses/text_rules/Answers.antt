@@ -1,7 +1,7 @@
 use Rattle.std.proofs.Common.{length, sym, subst}
 use Rattle.prolog_reader.specs.Fit.{IsFit}
 use Rattle.prolog_terms.specs.Terms.{clause_of}
-use Rattle.clause_normal.proofs.ListLemmas.{all_mapped_at}
+use Rattle.clause_variables.proofs.ListLemmas.{all_mapped_at}
 use Rattle.clause_normal.proofs.clauses.text_rules.Goals as goal
 
 pub add_clause-requires-clause-fit : goal.add_clause-requires-clause-fit

@@ -5,7 +5,7 @@ use Rattle.prolog_terms.specs.Terms.{tree_of}
 use Rattle.prolog_terms.specs.declared.term.ReadTerm.{ReadTerm}
 use Rattle.clause_normal.specs.NormalForm.{named_head_fault, head_fault, head_call}
 use Rattle.clause_normal.specs.Rules.{named}
-use Rattle.clause_normal.specs.Views.{plain_of}
+use Rattle.clause_variables.specs.TermViews.{plain_of}
 use Rattle.clause_normal.proofs.FormLemmas.{head_fault_fun, head_call_fun}
 use Rattle.clause_normal.proofs.PartLemmas.{name_known}
 use Rattle.clause_normal.proofs.forms.head_of.Goals as goal

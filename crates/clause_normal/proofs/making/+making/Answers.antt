@@ -9,7 +9,7 @@ use Rattle.clause_normal.specs.Outlines.{Outlines, OutlinesBelow, more_outlines,
 use Rattle.clause_normal.specs.OutlineViews.{goal_of, branches_in, outline_of, outline_goals, GoalIsBelow, OutlineIsBelow}
 use Rattle.clause_normal.specs.Rules.{Call, Rule, below, below_at, branch_rules, choice_call, choices, choices_at, inner, rules, within}
 use Rattle.clause_normal.specs.RuleViews.{rule_of}
-use Rattle.clause_normal.specs.Occurring.{HasSize}
+use Rattle.clause_variables.specs.Occurring.{HasSize}
 use Rattle.clause_normal.proofs.FitLemmas.{goals_work, branches_work}
 use Rattle.clause_normal.proofs.QueryLemmas.{if_fault_map}
 use Rattle.clause_normal.proofs.making.+making.Goals as goal

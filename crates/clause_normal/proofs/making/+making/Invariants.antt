@@ -7,7 +7,7 @@ use Rattle.clause_normal.specs.NormalForm.{goals_fault, branches_fault}
 use Rattle.clause_normal.specs.OutlineViews.{goal_of, branches_in, outline_goals, GoalIsBelow, OutlinesAreBelow}
 use Rattle.clause_normal.specs.Rules.{below, branch_rules, choice_call, choices, inner, within}
 use Rattle.clause_normal.specs.RuleViews.{rule_of}
-use Rattle.clause_normal.specs.Occurring.{HasSize}
+use Rattle.clause_variables.specs.Occurring.{HasSize}
 use Rattle.clause_normal.proofs.FitLemmas.{goals_work, goal_work, branches_work}
 use Rattle.clause_normal.proofs.making.+making.Given as goal
 

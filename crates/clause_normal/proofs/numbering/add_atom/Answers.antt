@@ -3,7 +3,8 @@ use Rattle.std.specs.List.{position_or_len}
 use Rattle.cti_terms.specs.Listing.{is_pred}
 use Rattle.cti_terms.specs.declared.predicates.Pred.{Pred}
 use Rattle.clause_normal.specs.Numbering.{name_number}
-use Rattle.clause_normal.specs.RuleViews.{functor_of, args_of}
+use Rattle.clause_variables.specs.TermViews.{args_of}
+use Rattle.clause_normal.specs.RuleViews.{functor_of}
 use Rattle.clause_normal.proofs.NumberingLemmas.{known_with_pred, extends_more}
 use Rattle.clause_normal.proofs.KindLemmas.{kinds_added}
 use Rattle.cti_terms.proofs.Wider.{preds_stay}

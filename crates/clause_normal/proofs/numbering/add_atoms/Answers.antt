@@ -12,7 +12,7 @@ use Rattle.clause_normal.specs.ChoiceNames.{functor_texts, call_texts}
 use Rattle.clause_normal.specs.Numbering.{atom_after, atoms_after, with_calls, HasArity}
 use Rattle.clause_normal.specs.Rules.{Call}
 use Rattle.clause_normal.specs.RuleViews.{call_of, IsNamed}
-use Rattle.clause_normal.proofs.ListLemmas.{all_push, all_at}
+use Rattle.clause_variables.proofs.ListLemmas.{all_push, all_at}
 use Rattle.clause_normal.proofs.NumberingLemmas.{arities_still}
 use Rattle.clause_normal.proofs.numbering.add_atoms.Goals as goal
 

@@ -11,8 +11,8 @@ use Rattle.prolog_reader.proofs.NameLemmas.{extends_trans, extends_self}
 use Rattle.clause_normal.specs.declared.rule.Call.{Call as CodeCall}
 use Rattle.clause_normal.specs.Numbering.{arithmetic_of, atom_after, atoms_after, with_calls, pred_of, order_of, call_variables}
 use Rattle.clause_normal.specs.RuleViews.{call_of, rule_of}
-use Rattle.clause_normal.specs.Terms.{firsts, is_among, list_variables}
-use Rattle.clause_normal.proofs.ListLemmas.{all_front, all_back}
+use Rattle.clause_variables.specs.Terms.{firsts, is_among, list_variables}
+use Rattle.clause_variables.proofs.ListLemmas.{all_front, all_back}
 use Rattle.clause_normal.proofs.NumberingLemmas.{all_among, list_below, atoms_below, are_atoms, arity_still}
 use Rattle.clause_normal.proofs.KindLemmas.{ordinary_none, ordinary_still}
 use Rattle.prolog_reader.specs.Naming.{with_names}

@@ -7,10 +7,10 @@ use Rattle.clause_normal.specs.declared.outline.Outline.{Outline, roll-Outline}
 use Rattle.clause_normal.specs.declared.outline.Piece.{Piece}
 use Rattle.clause_normal.specs.declared.outline.Piece.TheVariants.{Plain, Either}
 use Rattle.clause_normal.specs.OutlineViews.{goals_in, own_in, branches_in, PiecesAreBelow, OutlinesAreBelow}
-use Rattle.clause_normal.specs.Terms.{occurrences}
+use Rattle.clause_variables.specs.Terms.{occurrences}
 use Rattle.clause_normal.specs.Views.{goals_of, branches_of}
 use Rattle.clause_normal.proofs.BodyLemmas.{branches_assoc, joined_assoc, joined_none, not_either, some_node}
-use Rattle.clause_normal.proofs.ListLemmas.{all_back, all_front}
+use Rattle.clause_variables.proofs.ListLemmas.{all_back, all_front}
 use Rattle.clause_normal.proofs.OutlineLemmas.{either_below, either_goal, either_own, own_push, plain_own, made_below, made_goals, on_ok, plain_below, plain_goal, branches_push, goals_push, outlines_push, pieces_push}
 use Rattle.clause_normal.proofs.outlining.+outlining.Goals as goal
 

@@ -1,7 +1,7 @@
 use Rattle.std.proofs.Common.{◌∙◌, ℕ, List, map, ap, sym}
 use Rattle.prolog_terms.specs.declared.term.ReadTerm.{ReadTerm}
 use Rattle.clause_normal.specs.Bodies.{named_goal}
-use Rattle.clause_normal.specs.Views.{plain_of}
+use Rattle.clause_variables.specs.TermViews.{plain_of}
 use Rattle.clause_normal.proofs.PartLemmas.{atom_goal_fun, name_known}
 use Rattle.clause_normal.proofs.part.atom_item.Goals as goal
 

@@ -3,11 +3,11 @@ use Rattle.prolog_reader.specs.Names.{name_text}
 use Rattle.prolog_terms.specs.declared.term.ReadTerm.{ReadTerm}
 use Rattle.clause_normal.specs.declared.words.Connective.TheVariants as connective
 use Rattle.clause_normal.specs.Words.{connective_of}
-use Rattle.clause_normal.specs.Terms.{list_variables}
-use Rattle.clause_normal.specs.Views.{plain_of}
+use Rattle.clause_variables.specs.Terms.{list_variables}
+use Rattle.clause_variables.specs.TermViews.{plain_of}
 use Rattle.clause_normal.proofs.FormLemmas.{occurrences_two}
-use Rattle.clause_normal.proofs.ListLemmas.{nothing_left}
-use Rattle.clause_normal.proofs.TermLemmas.{occurrences_fun}
+use Rattle.clause_variables.proofs.ListLemmas.{nothing_left}
+use Rattle.clause_variables.proofs.TermLemmas.{occurrences_fun}
 use Rattle.clause_normal.proofs.PartLemmas.{two_of_and, two_of_or, none_of_truth, part_both, part_either, part_nothing, part_goal, sides_smaller, query_both, query_either, query_nothing, query_other}
 use Rattle.clause_normal.proofs.part.part_of.Goals as goal
 

@@ -4,7 +4,7 @@ use Rattle.clause_normal.specs.declared.part.Item.{Item}
 use Rattle.clause_normal.specs.Query.{query_calls}
 use Rattle.clause_normal.specs.RuleViews.{call_of}
 use Rattle.clause_normal.specs.Views.{item_goal, ItemIsFit}
-use Rattle.clause_normal.proofs.ListLemmas.{all_at}
+use Rattle.clause_variables.proofs.ListLemmas.{all_at}
 use Rattle.clause_normal.proofs.QueryLemmas.{calls_next}
 use Rattle.clause_normal.proofs.query.item_calls.Goals as goal
 

@@ -15,7 +15,7 @@ use Rattle.clause_normal.specs.NormalForm.{variables_fault}
 use Rattle.clause_normal.specs.Numbering.{arithmetic_of, is_equality, with_equality_clause, atoms_after, with_calls, call_variables}
 use Rattle.clause_normal.specs.Query.{query_goals, query_fault, query_calls, query_form, with_query, query_goal, new_equality}
 use Rattle.clause_normal.specs.RuleViews.{call_of, CallIsFit, IsNamed}
-use Rattle.clause_normal.specs.Terms.{occurrences, firsts}
+use Rattle.clause_variables.specs.Terms.{occurrences, firsts}
 use Rattle.clause_normal.proofs.NumberingLemmas.{all_among, atoms_below, are_atoms}
 use Rattle.clause_normal.proofs.QueryLemmas.{if_fault_map, query_err, query_bad, query_many, query_well}
 use Rattle.clause_normal.proofs.query.normal_query.Goals as goal

@@ -4,7 +4,7 @@ use Rattle.prolog_terms.specs.Clauses.{is_known}
 use Rattle.prolog_terms.specs.Terms.{tree_of}
 use Rattle.clause_normal.specs.Bodies.{Goal}
 use Rattle.clause_normal.specs.Views.{item_goal, ItemIsFit}
-use Rattle.clause_normal.proofs.ListLemmas.{all_push, all_pop}
+use Rattle.clause_variables.proofs.ListLemmas.{all_push, all_pop}
 use Rattle.clause_normal.proofs.BodyLemmas.{some_node, off_smaller, sides_on}
 use Rattle.clause_normal.proofs.QueryLemmas.{queries_both, queries_nothing, queries_item}
 use Rattle.clause_normal.proofs.query.query_items.Goals as goal

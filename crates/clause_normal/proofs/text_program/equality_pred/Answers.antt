@@ -1,7 +1,7 @@
 use Rattle.std.proofs.Common.{◌<◌, ◌∙◌, length, sym, arith}
 use Rattle.cti_terms.specs.declared.predicates.Pred.{Pred}
 use Rattle.clause_normal.specs.Numbering.{is_equality}
-use Rattle.clause_normal.proofs.ListLemmas.{all_get, place_found, place_next, place_none}
+use Rattle.clause_variables.proofs.ListLemmas.{all_get, place_found, place_next, place_none}
 use Rattle.clause_normal.proofs.text_program.equality_pred.Goals as goal
 
 pub is_equality-requires : goal.is_equality-requires

@@ -12,7 +12,7 @@ use Rattle.clause_normal.specs.Numbering.{arithmetic_of, empty_program, operatio
 use Rattle.clause_normal.specs.Kinds.{IsOrdinaryCall}
 use Rattle.clause_normal.specs.Rules.{Rule}
 use Rattle.clause_normal.specs.RuleViews.{rule_of, RuleIsFit, RuleIsNamed}
-use Rattle.clause_normal.proofs.ListLemmas.{all_at, all_mapped_at}
+use Rattle.clause_variables.proofs.ListLemmas.{all_at, all_mapped_at}
 use Rattle.clause_normal.proofs.KindLemmas.{call_stays}
 use Rattle.clause_normal.proofs.NumberingLemmas.{extends_more, rule_later}
 use Rattle.clause_normal.proofs.text_program.program_of.Goals as goal

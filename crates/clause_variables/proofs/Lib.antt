@@ -1,0 +1,5 @@
+pub mod TermLemmas
+pub mod OrderLemmas
+pub mod ListLemmas
+pub mod OccurringLemmas
+pub mod CopyLemmas

@@ -1,0 +1,4 @@
+pub mod Terms
+pub mod TermViews
+pub mod Stacks
+pub mod Occurring
