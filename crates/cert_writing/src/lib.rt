@@ -1,7 +1,8 @@
 //! The facts of a certificate's parts, in the order of the format.
 //!
 //! `facts_of` is the other direction of `parts_of` of cert_structure, which finds the same parts in these facts.
-//! `Writer` and `write_each` are for any type of facts: those of `lex_certificate` are written by them too.
+//! `Writer` and `write_each` are for any type of facts, and so are the writers of what certificates of lists of mappings
+//! have too (`FromShared`): `lex_certificate` writes its facts by them.
 #![tactic(auto)]
 
 mod fields;
@@ -10,10 +11,16 @@ mod mappings;
 mod modes;
 mod preconditions;
 mod refutations;
+mod shared_facts;
 mod size_rows;
 mod writer;
 mod writing;
 
-pub use fields::{cells, counted, numbers, row_numbers};
+pub use fields::{counted, numbers};
+pub use ground_rows::WrittenGrounds;
+pub use modes::WrittenModes;
+pub use preconditions::WrittenPres;
+pub use shared_facts::FromShared;
+pub use size_rows::{WrittenProofs, WrittenSizes};
 pub use writer::{Writer, append, write_each};
 pub use writing::facts_of;

@@ -1,66 +1,62 @@
 //! The facts of preconditions.
 
 ghost use Rattle.std.specs.Prelude.{◌∷◌, [], suc, map};
-ghost use Rattle.certificate.specs.declared.fact.Fact.TheVariants as fact;
 ghost use Rattle.fact_reading.specs.Numbered.{facts_from, lines_from};
-ghost use Rattle.cert_structure.specs.Order.{pred_text, cell_of, pre_line};
+ghost use Rattle.cert_structure.specs.Order.{pred_text, cell_of};
 ghost use Rattle.cert_structure.specs.Walk.{named};
 
 use crate::fields::{cells, counted};
+use crate::shared_facts::FromShared;
 use crate::writer::{Writer, write_each};
 use bool_diagrams::Cube;
 use cert_structure::Named;
-use certificate::Fact;
 use cti_terms::{Names, Program};
 use sequences::Sequence;
 use std::alloc::{AllocError, Global};
 
-/// The rows of a predicate's precondition for a mapping.
+/// The rows of a predicate's precondition for a mapping, or for a list.
 #[derive(Drop)]
-pub(crate) struct PreOf<'a> {
-    pub(crate) pred: Named<'a>,
-    pub(crate) mapping: u32,
+struct PreOf<'a> {
+    pred: Named<'a>,
+    mapping: u32,
 }
 
-impl Writer<Fact> for PreOf<'_> {
+impl<F: FromShared> Writer<F> for PreOf<'_> {
     type Item = Cube;
 
-    ghost facts = { λ w i cube. fact.Pre (named w.pred) w.mapping (suc i) (map cell_of cube) ∷ [] };
+    ghost facts = { λ w i cube. F.pre_fact (named w.pred) w.mapping (suc i) (map cell_of cube) ∷ [] };
 
     fn write(
         &self,
         alloc: Global,
         number: u64,
         item: &Cube,
-        out: &mut Sequence<Fact>,
+        out: &mut Sequence<F>,
     ) -> Result<(), AllocError> {
-        let fact = Fact::Pre {
-            pred: self.pred.text(alloc)?,
-            mapping: self.mapping,
-            index: number + 1,
-            cube: cells(alloc, item)?,
-        };
-        out.push(fact)
+        let pred = self.pred.text(alloc)?;
+        let cube = cells(alloc, item)?;
+        out.push(F::pre(pred, self.mapping, number + 1, cube))
     }
 }
 
 /// The preconditions of a predicate.
 #[derive(Drop)]
-pub(crate) struct PresOf<'a> {
-    pub(crate) pred: Named<'a>,
+struct PresOf<'a> {
+    pred: Named<'a>,
 }
 
-impl Writer<Fact> for PresOf<'_> {
+impl<F: FromShared> Writer<F> for PresOf<'_> {
     type Item = Sequence<Cube>;
 
-    ghost facts = { λ w m cs. lines_from 0 (pre_line (named w.pred) m) cs };
+    ghost facts = { λ w m cs. lines_from 0 (λ i cube. F.pre_fact (named w.pred) (suc m) (suc i)
+        (map cell_of cube)) cs };
 
     fn write(
         &self,
         alloc: Global,
         number: u64,
         item: &Sequence<Cube>,
-        out: &mut Sequence<Fact>,
+        out: &mut Sequence<F>,
     ) -> Result<(), AllocError> {
         let mapping = counted(number)?;
         let rows = PreOf {
@@ -73,23 +69,23 @@ impl Writer<Fact> for PresOf<'_> {
 
 /// The preconditions of predicates.
 #[derive(Drop)]
-pub(crate) struct Pres<'a> {
-    pub(crate) p: &'a Program,
-    pub(crate) names: &'a Names,
+pub struct WrittenPres<'a> {
+    pub p: &'a Program,
+    pub names: &'a Names,
 }
 
-impl Writer<Fact> for Pres<'_> {
+impl<F: FromShared> Writer<F> for WrittenPres<'_> {
     type Item = Sequence<Sequence<Cube>>;
 
-    ghost facts = { λ w a ms. facts_from 0 (λ m cs. lines_from 0 (pre_line
-        (pred_text w.p.now w.names.now a) m) cs) ms };
+    ghost facts = { λ w a ms. facts_from 0 (λ m cs. lines_from 0 (λ i cube. F.pre_fact
+        (pred_text w.p.now w.names.now a) (suc m) (suc i) (map cell_of cube)) cs) ms };
 
     fn write(
         &self,
         alloc: Global,
         number: u64,
         item: &Sequence<Sequence<Cube>>,
-        out: &mut Sequence<Fact>,
+        out: &mut Sequence<F>,
     ) -> Result<(), AllocError> {
         let pred = Named::new(self.p, self.names, number);
         write_each(alloc, &PresOf { pred }, item.as_slice(), out)

@@ -4,12 +4,12 @@ ghost use Rattle.std.specs.Prelude.{◌≡◌, ◌++◌, IfOk, OnOk};
 ghost use Rattle.cert_structure.specs.Order.{head_facts, listed};
 ghost use Rattle.cert_writing.specs.Written.{set_facts, mapping_facts};
 
-use crate::ground_rows::Grounds;
+use crate::ground_rows::WrittenGrounds;
 use crate::mappings::{Falls, Levels};
-use crate::modes::Modes;
-use crate::preconditions::Pres;
+use crate::modes::WrittenModes;
+use crate::preconditions::WrittenPres;
 use crate::refutations::Refutations;
-use crate::size_rows::{Proofs, Sizes};
+use crate::size_rows::{WrittenProofs, WrittenSizes};
 use crate::writer::{append, write_each};
 use cert_structure::Parts;
 use certificate::{CertNorm, Certificate, Fact};
@@ -40,10 +40,25 @@ fn write_sets(
 ) -> Result<(), AllocError>
     ensures { OnOk result (out.new ≡ out.old ++ set_facts p.now names.now parts.now) }
 {
-    write_each(alloc, &Modes { p, names }, parts.modes.as_slice(), out)?;
-    write_each(alloc, &Sizes { p, names }, parts.rows.as_slice(), out)?;
-    write_each(alloc, &Proofs {}, parts.row_proofs.as_slice(), out)?;
-    write_each(alloc, &Grounds { p, names }, parts.grounds.as_slice(), out)
+    write_each(
+        alloc,
+        &WrittenModes { p, names },
+        parts.modes.as_slice(),
+        out,
+    )?;
+    write_each(
+        alloc,
+        &WrittenSizes { p, names },
+        parts.rows.as_slice(),
+        out,
+    )?;
+    write_each(alloc, &WrittenProofs {}, parts.row_proofs.as_slice(), out)?;
+    write_each(
+        alloc,
+        &WrittenGrounds { p, names },
+        parts.grounds.as_slice(),
+        out,
+    )
 }
 
 /// Puts the facts of mappings, their falls and preconditions, and refutations after others.
@@ -60,7 +75,7 @@ fn write_mappings(
     write_each(alloc, &Falls {}, parts.falls.as_slice(), out)?;
     write_each(
         alloc,
-        &Pres { p, names },
+        &WrittenPres { p, names },
         parts.preconditions.as_slice(),
         out,
     )?;

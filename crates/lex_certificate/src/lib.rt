@@ -8,7 +8,6 @@
 
 mod drops;
 mod fact;
-mod field;
 mod flat;
 mod list_certificate;
 mod lists;
@@ -19,7 +18,6 @@ mod shared_fact;
 mod stuck;
 mod writing;
 mod written_lists;
-mod written_sets;
 
 pub use fact::LexFact;
 pub use flat::{flat_levels, union_part};

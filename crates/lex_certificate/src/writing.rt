@@ -7,9 +7,10 @@ ghost use Rattle.lex_certificate.specs.Written.{set_facts, list_facts};
 use crate::fact::LexFact;
 use crate::list_certificate::LexCertificate;
 use crate::parts::LexParts;
-use crate::written_lists::{WrittenDrops, WrittenLists, WrittenPres, WrittenSets};
-use crate::written_sets::{WrittenGrounds, WrittenModes, WrittenProofs, WrittenSizes};
-use cert_writing::{append, write_each};
+use crate::written_lists::{WrittenDrops, WrittenLists, WrittenSets};
+use cert_writing::{
+    WrittenGrounds, WrittenModes, WrittenPres, WrittenProofs, WrittenSizes, append, write_each,
+};
 use cti_terms::{Names, Program};
 use sequences::Sequence;
 use std::alloc::{AllocError, Global};

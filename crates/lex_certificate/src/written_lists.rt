@@ -1,16 +1,15 @@
-//! The facts of lists of mappings, their drops and preconditions, and stuck sets.
+//! The facts of lists of mappings, their drops, and stuck sets.
 
-ghost use Rattle.std.specs.Prelude.{◌∷◌, [], suc, map};
-ghost use Rattle.cert_structure.specs.Order.{pred_text, cell_of};
+ghost use Rattle.std.specs.Prelude.{◌∷◌, [], suc};
+ghost use Rattle.cert_structure.specs.Order.{pred_text};
 ghost use Rattle.cert_structure.specs.Walk.{named};
 ghost use Rattle.fact_reading.specs.Numbered.{facts_from, lines_from};
-ghost use Rattle.lex_certificate.specs.Order.{level_line, drops_line, pre_line, point_line, stuck_lines};
+ghost use Rattle.lex_certificate.specs.Order.{level_line, drops_line, point_line, stuck_lines};
 ghost use Rattle.lex_certificate.specs.declared.fact.LexFact.TheVariants as lex;
 
 use crate::fact::LexFact;
-use bool_diagrams::Cube;
 use cert_structure::Named;
-use cert_writing::{Writer, cells, counted, numbers, write_each};
+use cert_writing::{Writer, counted, numbers, write_each};
 use cti_terms::{Names, Program};
 use linear_rows::Multipliers;
 use number_tests::{LevelPart, PairPoint, Refutation};
@@ -208,87 +207,6 @@ impl Writer<LexFact> for WrittenDrops {
     ) -> Result<(), AllocError> {
         let clause = counted(number)?;
         write_each(alloc, &DropsOf { clause }, item.as_slice(), out)
-    }
-}
-
-/// The rows of a predicate's precondition for a list.
-#[derive(Drop)]
-pub(crate) struct PreOf<'a> {
-    pub(crate) pred: Named<'a>,
-    pub(crate) list: u32,
-}
-
-impl Writer<LexFact> for PreOf<'_> {
-    type Item = Cube;
-
-    ghost facts = { λ w i cube. lex.Pre (named w.pred) w.list (suc i) (map cell_of cube) ∷ [] };
-
-    fn write(
-        &self,
-        alloc: Global,
-        number: u64,
-        item: &Cube,
-        out: &mut Sequence<LexFact>,
-    ) -> Result<(), AllocError> {
-        let fact = LexFact::Pre {
-            pred: self.pred.text(alloc)?,
-            list: self.list,
-            index: number + 1,
-            cube: cells(alloc, item)?,
-        };
-        out.push(fact)
-    }
-}
-
-/// The preconditions of a predicate.
-#[derive(Drop)]
-pub(crate) struct PresOf<'a> {
-    pub(crate) pred: Named<'a>,
-}
-
-impl Writer<LexFact> for PresOf<'_> {
-    type Item = Sequence<Cube>;
-
-    ghost facts = { λ w m cs. lines_from 0 (pre_line (named w.pred) m) cs };
-
-    fn write(
-        &self,
-        alloc: Global,
-        number: u64,
-        item: &Sequence<Cube>,
-        out: &mut Sequence<LexFact>,
-    ) -> Result<(), AllocError> {
-        let list = counted(number)?;
-        let rows = PreOf {
-            pred: self.pred,
-            list,
-        };
-        write_each(alloc, &rows, item.as_slice(), out)
-    }
-}
-
-/// The preconditions of predicates.
-#[derive(Drop)]
-pub(crate) struct WrittenPres<'a> {
-    pub(crate) p: &'a Program,
-    pub(crate) names: &'a Names,
-}
-
-impl Writer<LexFact> for WrittenPres<'_> {
-    type Item = Sequence<Sequence<Cube>>;
-
-    ghost facts = { λ w a ms. facts_from 0 (λ m cs. lines_from 0 (pre_line
-        (pred_text w.p.now w.names.now a) m) cs) ms };
-
-    fn write(
-        &self,
-        alloc: Global,
-        number: u64,
-        item: &Sequence<Sequence<Cube>>,
-        out: &mut Sequence<LexFact>,
-    ) -> Result<(), AllocError> {
-        let pred = Named::new(self.p, self.names, number);
-        write_each(alloc, &PresOf { pred }, item.as_slice(), out)
     }
 }
 

@@ -4,6 +4,7 @@ use listed_programs::Listed;
 use messages::Place;
 use mode_causes::View;
 use std::alloc::{AllocError, Global};
+use warnings::indicator_of;
 
 /// How many calls are named of those at which nothing falls.
 pub(crate) const MOST_CALLS: u64 = 4;
@@ -20,7 +21,7 @@ pub(crate) struct Source<'n, 't, 'p> {
 }
 
 /// Whether a name is a small letter with letters, digits and underscores.
-pub(crate) fn is_plain(name: &str) -> bool {
+fn is_plain(name: &str) -> bool {
     name.starts_with(|c: char| c.is_ascii_lowercase())
         && name
             .bytes()
@@ -46,9 +47,8 @@ impl<'n, 'p> Source<'n, '_, 'p> {
         if self.listed.is_disjunction(pred) {
             return format!(in alloc; "this disjunction");
         }
-        let name = self.name_of(pred);
-        let arity = self.arity_of(pred);
-        format!(in alloc; "`{name}/{arity}`")
+        let indicator = indicator_of(alloc, self.listed.name_of(pred), self.arity_of(pred))?;
+        format!(in alloc; "`{indicator}`")
     }
 
     /// A byte's line and column.

@@ -1,8 +1,8 @@
 //! Facts that are expected in a certificate, as they are shown.
 
-use crate::showing::is_plain;
 use listed_programs::Listed;
 use std::alloc::{AllocError, Global};
+use warnings::indicator_of;
 
 /// A fact that is expected. Predicates are counted from 0, all else from 1.
 #[derive(Clone, Copy)]
@@ -25,16 +25,11 @@ pub(crate) enum Wanted {
 
 /// A predicate as a certificate has it.
 fn shown_pred(alloc: Global, listed: &Listed, pred: u32) -> Result<String, AllocError> {
-    let name = std::str::from_utf8(listed.name_of(pred)).unwrap_or("?");
     let arity = match listed.table.preds.get(pred as usize) {
         Some(pred) => pred.arity,
         None => 0,
     };
-    if name == "[]" || is_plain(name) {
-        format!(in alloc; "{name}/{arity}")
-    } else {
-        format!(in alloc; "'{name}'/{arity}")
-    }
+    indicator_of(alloc, listed.name_of(pred), arity)
 }
 
 /// A fact as it is shown, without what its place does not determine.

@@ -2,7 +2,8 @@
 //! that occur only once, and expressions that never have a value.
 //!
 //! The text that was loaded is read again, and nothing that is answered depends on it. It depends on `prolog_reader`
-//! for clauses with places, on `cti_terms` for names, on `messages` for the form, on `indexmap` and on `thiserror`.
+//! for clauses with places, on `cti_terms` and `prolog_tokens` for names, on `messages` for the form, on `indexmap` and on
+//! `thiserror`.
 #![tactic(auto)]
 
 mod calls;
@@ -17,6 +18,6 @@ mod singletons;
 mod telling;
 mod warning;
 
-pub use parts::{body_of, head_of, text_of};
+pub use parts::{body_of, head_of, indicator_of, text_of};
 pub use sentence::Sentence;
 pub use telling::{program_warnings, query_warnings, warn};

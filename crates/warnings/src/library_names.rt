@@ -5,15 +5,21 @@
 type NameArity = (&'static str, u32);
 
 /// Those for which there are clauses of pure programs.
-pub(crate) const WITH_CLAUSES: [NameArity; 29] = [
+pub(crate) const WITH_CLAUSES: [NameArity; 36] = [
     ("append", 2),
     ("append", 3),
+    ("assoc_to_keys", 2),
+    ("assoc_to_list", 2),
+    ("assoc_to_values", 2),
     ("between", 3),
+    ("empty_assoc", 1),
     ("last", 2),
     ("length", 2),
+    ("max_assoc", 3),
     ("max_list", 2),
     ("member", 2),
     ("memberchk", 2),
+    ("min_assoc", 3),
     ("min_list", 2),
     ("nextto", 3),
     ("nth0", 3),
@@ -35,19 +41,17 @@ pub(crate) const WITH_CLAUSES: [NameArity; 29] = [
     ("succ", 2),
     ("sum_list", 2),
     ("sumlist", 2),
+    ("transpose", 2),
 ];
 
 /// Those that take goals from terms, and others for which no clauses of pure programs do.
-pub(crate) const OF_GOALS: [NameArity; 78] = [
+pub(crate) const OF_GOALS: [NameArity; 71] = [
     ("aggregate_all", 3),
     ("aggregate_all", 4),
     ("all_different", 1),
     ("all_distinct", 1),
     ("apply", 2),
     ("apply", 3),
-    ("assoc_to_keys", 2),
-    ("assoc_to_list", 2),
-    ("assoc_to_values", 2),
     ("call_cleanup", 2),
     ("call_dcg", 3),
     ("call_with_depth_limit", 3),
@@ -58,7 +62,6 @@ pub(crate) const OF_GOALS: [NameArity; 78] = [
     ("del_assoc", 4),
     ("delete", 3),
     ("dif", 2),
-    ("empty_assoc", 1),
     ("exclude", 3),
     ("findall", 4),
     ("findnsols", 4),
@@ -85,9 +88,7 @@ pub(crate) const OF_GOALS: [NameArity; 78] = [
     ("maplist", 5),
     ("maplist", 6),
     ("maplist", 7),
-    ("max_assoc", 3),
     ("max_member", 2),
-    ("min_assoc", 3),
     ("min_member", 2),
     ("not", 1),
     ("offset", 2),
@@ -113,7 +114,6 @@ pub(crate) const OF_GOALS: [NameArity; 78] = [
     ("sum", 3),
     ("thread_create", 2),
     ("thread_create", 3),
-    ("transpose", 2),
     ("union", 3),
     ("with_output_to", 2),
     ("{}", 1),
@@ -142,7 +142,7 @@ pub(crate) const TESTS: [NameArity; 18] = [
 ];
 
 /// Those that end, and bind what is not known here.
-pub(crate) const UNKNOWN: [NameArity; 66] = [
+pub(crate) const UNKNOWN: [NameArity; 62] = [
     ("absolute_file_name", 2),
     ("atom_number", 2),
     ("atom_string", 2),
@@ -168,7 +168,6 @@ pub(crate) const UNKNOWN: [NameArity; 66] = [
     ("gensym", 2),
     ("get_byte", 1),
     ("get_byte", 2),
-    ("get_char", 2),
     ("get_code", 1),
     ("get_code", 2),
     ("get_dict", 3),
@@ -180,14 +179,11 @@ pub(crate) const UNKNOWN: [NameArity; 66] = [
     ("number_string", 2),
     ("numbervars", 1),
     ("numbervars", 3),
-    ("open", 4),
     ("peek_char", 1),
     ("peek_code", 1),
     ("random", 1),
     ("random", 3),
     ("random_between", 3),
-    ("read", 2),
-    ("read_term", 3),
     ("set_input", 1),
     ("set_output", 1),
     ("sort", 2),
@@ -212,7 +208,7 @@ pub(crate) const UNKNOWN: [NameArity; 66] = [
 ];
 
 /// Those that write, and end.
-pub(crate) const OUTPUT: [NameArity; 42] = [
+pub(crate) const OUTPUT: [NameArity; 36] = [
     ("append", 1),
     ("debug", 0),
     ("debug", 1),
@@ -224,7 +220,6 @@ pub(crate) const OUTPUT: [NameArity; 42] = [
     ("format", 3),
     ("listing", 0),
     ("listing", 1),
-    ("nl", 1),
     ("nodebug", 0),
     ("nospy", 1),
     ("notrace", 0),
@@ -236,7 +231,6 @@ pub(crate) const OUTPUT: [NameArity; 42] = [
     ("print_message_lines", 3),
     ("put", 1),
     ("put_byte", 1),
-    ("put_char", 2),
     ("see", 1),
     ("seen", 0),
     ("spy", 1),
@@ -246,15 +240,11 @@ pub(crate) const OUTPUT: [NameArity; 42] = [
     ("told", 0),
     ("trace", 0),
     ("ttyflush", 0),
-    ("write", 2),
-    ("write_canonical", 2),
     ("write_length", 3),
-    ("write_term", 3),
     ("writef", 1),
     ("writef", 2),
     ("writeln", 1),
     ("writeln", 2),
-    ("writeq", 2),
 ];
 
 /// Those that change clauses or values that last.

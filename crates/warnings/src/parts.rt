@@ -4,6 +4,8 @@ ghost use Rattle.std.specs.Prelude.{◌<◌, length};
 
 use cti_terms::{Name, Names, Pred};
 use prolog_reader::{ReadShape, ReadTerm};
+use prolog_tokens::quote;
+use std::alloc::{AllocError, Global};
 
 /// The text of a name.
 pub fn text_of(names: &Names, name: Name) -> &[u8] {
@@ -12,6 +14,14 @@ pub fn text_of(names: &Names, name: Name) -> &[u8] {
     } else {
         b""
     }
+}
+
+/// A predicate as `append/3`, with its name in quotes where it needs them.
+pub fn indicator_of(alloc: Global, name: &[u8], arity: u32) -> Result<String, AllocError> {
+    let mut spelled = Vec::new(alloc);
+    quote(name, &mut spelled)?;
+    let name = std::str::from_utf8(&spelled).unwrap_or("?");
+    format!(in alloc; "{name}/{arity}")
 }
 
 /// Whether a term has a name with this text and the given arity.

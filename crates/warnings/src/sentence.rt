@@ -2,35 +2,26 @@
 
 use thiserror::Error;
 
-/// A warning as it is said.
+/// A warning as it is said. Predicates stand in it as `append/3`.
 #[derive(Clone, Copy, Debug, Error)]
 pub enum Sentence<'a> {
     #[error("this is a certificate, and it is read as a program of facts")]
     Certificate,
-    #[error("`{name}/{arity}` is called and has no clause: here it always fails, so the modes of `{caller}/{inputs}` and its callers say nothing about a program that defines it")]
+    #[error("`{pred}` is called and has no clause: here it always fails, so the modes of `{caller}` and its callers say nothing about a program that defines it")]
     NoClause {
-        name: &'a str,
-        arity: u32,
-        /// The predicate whose clause calls it, and how many arguments that has.
+        pred: &'a str,
+        /// The predicate whose clause calls it.
         caller: &'a str,
-        inputs: u32,
     },
-    #[error("`{name}/{arity}` is called and has no clause: here it always fails")]
-    NoClauseInQuery {
-        name: &'a str,
-        arity: u32,
-    },
-    #[error("`{name}/{arity}` is called and has no clause, but `{name}/{other}` has one")]
+    #[error("`{0}` is called and has no clause: here it always fails")]
+    NoClauseInQuery(&'a str),
+    #[error("`{pred}` is called and has no clause, but `{other}` has one")]
     OtherArity {
-        name: &'a str,
-        arity: u32,
-        other: u32,
+        pred: &'a str,
+        other: &'a str,
     },
-    #[error("`{name}/{arity}` has no value here, so this goal always fails")]
-    NoValue {
-        name: &'a str,
-        arity: u32,
-    },
+    #[error("`{0}` has no value here, so this goal always fails")]
+    NoValue(&'a str),
     #[error("the variable {0} occurs only once: write `_` if that is intended")]
     Singleton(&'a str),
     #[error("the variables {0} occur only once: write `_` for each that is intended")]

@@ -3,7 +3,7 @@
 use crate::finding::{defined_in, query_warnings_in, warnings_in};
 use crate::findings::Findings;
 use crate::libraries::library_of;
-use crate::parts::text_of;
+use crate::parts::{indicator_of, text_of};
 use crate::sentence::Sentence;
 use crate::warning::Warning;
 use cti_terms::{Name, Names, Pred};
@@ -58,39 +58,30 @@ fn variables_at(alloc: Global, text: &[u8], places: &[u32]) -> Result<String, Al
     Ok(said)
 }
 
-/// A call of a predicate without clauses, as it is said.
-fn missing<'a>(names: &'a Names, pred: Pred, caller: Option<Pred>) -> Sentence<'a> {
-    let name = str_of(names, pred.name);
-    let arity = pred.arity;
-    match caller {
-        Some(caller) => Sentence::NoClause {
-            name,
-            arity,
-            caller: str_of(names, caller.name),
-            inputs: caller.arity,
-        },
-        None => Sentence::NoClauseInQuery { name, arity },
+/// A predicate as it is said, if there is one.
+fn said(alloc: Global, names: &Names, pred: Option<Pred>) -> Result<String, AllocError> {
+    match pred {
+        Some(pred) => indicator_of(alloc, text_of(names, pred.name), pred.arity),
+        None => Ok(String::new(alloc)),
     }
 }
 
-/// A warning about calls as it is said, or one about named variables, of which there are this many.
+/// A warning about these predicates as it is said, or one about named variables, of which there are this many.
 fn sentence_of<'a>(
-    names: &'a Names,
     warning: Warning,
+    pred: &'a str,
+    other: &'a str,
     variables: &'a str,
     count: usize,
 ) -> Sentence<'a> {
     match warning {
-        Warning::NoClause { pred, caller, .. } => missing(names, pred, caller),
-        Warning::OtherArity { pred, arity, .. } => Sentence::OtherArity {
-            name: str_of(names, pred.name),
-            arity: pred.arity,
-            other: arity,
+        Warning::NoClause { caller: None, .. } => Sentence::NoClauseInQuery(pred),
+        Warning::NoClause { .. } => Sentence::NoClause {
+            pred,
+            caller: other,
         },
-        Warning::NoValue { pred, .. } => Sentence::NoValue {
-            name: str_of(names, pred.name),
-            arity: pred.arity,
-        },
+        Warning::OtherArity { .. } => Sentence::OtherArity { pred, other },
+        Warning::NoValue { .. } => Sentence::NoValue(pred),
         Warning::Singletons { .. } if count == 1 => Sentence::Singleton(variables),
         Warning::Singletons { .. } => Sentence::Singletons(variables),
     }
@@ -128,7 +119,9 @@ fn push_warning(
 ) -> Result<(), AllocError> {
     let place = Place::of(named.name, named.text, warning.at());
     let variables = variables_at(alloc, named.text, places)?;
-    let sentence = sentence_of(named.names, warning, &variables, places.len());
+    let pred = said(alloc, named.names, warning.pred())?;
+    let other = said(alloc, named.names, warning.other())?;
+    let sentence = sentence_of(warning, &pred, &other, &variables, places.len());
     push_head(alloc, message, named.text, place, sentence)?;
     match advice_of(named.names, warning) {
         Some(advice) => push_help(message, advice),

@@ -31,6 +31,28 @@ pub(crate) enum Warning {
 }
 
 impl Warning {
+    /// The predicate, or the name of an expression with the number of its arguments.
+    pub(crate) fn pred(self) -> Option<Pred> {
+        match self {
+            Warning::NoClause { pred, .. }
+            | Warning::OtherArity { pred, .. }
+            | Warning::NoValue { pred, .. } => Some(pred),
+            Warning::Singletons { .. } => None,
+        }
+    }
+
+    /// The other predicate that is named: the one that calls, or the one that has clauses.
+    pub(crate) fn other(self) -> Option<Pred> {
+        match self {
+            Warning::NoClause { caller, .. } => caller,
+            Warning::OtherArity { pred, arity, .. } => Some(Pred {
+                name: pred.name,
+                arity,
+            }),
+            _ => None,
+        }
+    }
+
     /// The place.
     pub(crate) fn at(self) -> u32 {
         match self {
