@@ -17,7 +17,7 @@ use Rattle.prolog_reader.specs.declared.fault.ReadKind.TheVariants.{Lex, BadOp}
 use Rattle.prolog_terms.specs.Clauses.{Clause, place}
 use Rattle.prolog_terms.specs.Symbols.{Seen, none_seen, tokens_of, seen_after_all}
 use Rattle.prolog_operators.specs.Table.{Table, standard}
-use Rattle.prolog_reader.specs.Views.{table_rules}
+use Rattle.term_parser.specs.Views.{table_rules}
 use Rattle.prolog_reader.specs.Words.{known, words_of}
 use Rattle.prolog_reader.specs.Directive.{sets, refuses, effect}
 use Rattle.prolog_reader.specs.Reading.{Fault, Answer, fault_at, before_rest, clause_fault, with_clause, IsLeft, clause_tokens, ReadsBy, Answers, by_clauses, all_read, stops, bad_operator, one_more}

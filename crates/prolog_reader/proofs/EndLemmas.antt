@@ -9,17 +9,17 @@ use Rattle.prolog_reader.specs.declared.clause_reading.ClauseReader.{ClauseReade
 use Rattle.prolog_reader.specs.declared.clause_reading.Found.{Found}
 use Rattle.prolog_reader.specs.declared.clause_reading.Found.TheVariants as found
 use Rattle.prolog_reader.specs.declared.fault.ReadKind.TheVariants.{Unexpected}
-use Rattle.prolog_reader.specs.declared.part.Part.{Part as CodePart}
-use Rattle.prolog_reader.specs.declared.state.State.{State as CodeState}
-use Rattle.prolog_reader.specs.declared.state.Refusal.{Refusal}
-use Rattle.prolog_reader.specs.declared.state.Refusal.TheVariants as refusal
+use Rattle.term_parser.specs.declared.part.Part.{Part as CodePart}
+use Rattle.term_parser.specs.declared.state.State.{State as CodeState}
+use Rattle.term_parser.specs.declared.state.Refusal.{Refusal}
+use Rattle.term_parser.specs.declared.state.Refusal.TheVariants as refusal
 use Rattle.prolog_terms.specs.Clauses.{Clause}
 use Rattle.prolog_reader.specs.FoundFit.{IsClauseFit}
-use Rattle.prolog_reader.specs.Parsing.{rules, frames}
+use Rattle.term_parser.specs.Parsing.{rules, frames}
 use Rattle.prolog_reader.specs.Progress.{text_of, table, known, seen, IsClause, IsEnd, end_kind}
 use Rattle.prolog_reader.specs.Scan.{Closes}
 use Rattle.prolog_terms.specs.Terms.{tree_of, clause_of}
-use Rattle.prolog_reader.specs.Views.{part_view, state_of, refusal_of}
+use Rattle.term_parser.specs.Views.{part_view, state_of, refusal_of}
 use Rattle.prolog_reader.proofs.FitLemmas.{next_fine, next_within, clause_fit}
 use Rattle.prolog_reader.proofs.RunLemmas.{part_tree_view, clause_by, closes_none, closes_step}
 

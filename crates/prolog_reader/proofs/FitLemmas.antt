@@ -10,7 +10,7 @@ use Rattle.prolog_operators.specs.Names.{Extends}
 use Rattle.prolog_reader.specs.Words.{known}
 use Rattle.prolog_operators.specs.Table.{Table}
 use Rattle.prolog_reader.specs.FoundFit.{AreWithin, IsClauseFit}
-use Rattle.prolog_reader.specs.Views.{table_rules}
+use Rattle.term_parser.specs.Views.{table_rules}
 use Rattle.prolog_reader.specs.Measures.{weight, part_nodes, state_nodes, NextWithin, IsFine, IsStateFine, IsNextFine, IsTokenFine}
 use Rattle.prolog_operators.proofs.NameLemmas.{number_within}
 use Rattle.prolog_reader.proofs.MeasureLemmas.{step_fine, step_within}

@@ -1,9 +1,6 @@
 pub use Rattle.prolog_operators.proofs.NameLemmas
 pub mod ViewLemmas
 pub mod NamingLemmas
-pub mod MachineLemmas
-pub mod StackLemmas
-pub mod WalkLemmas
 pub mod TextLemmas
 pub mod LexLemmas
 pub mod SymbolLemmas

@@ -20,7 +20,7 @@ use Rattle.prolog_terms.specs.Terms.{clause_of}
 use Rattle.prolog_operators.specs.Names.{Extends}
 use Rattle.prolog_operators.specs.Meanings.{table_of}
 use Rattle.prolog_operators.specs.Table.{Table, standard}
-use Rattle.prolog_reader.specs.Views.{table_rules}
+use Rattle.term_parser.specs.Views.{table_rules}
 use Rattle.prolog_reader.specs.Words.{known, words_of}
 use Rattle.prolog_reader.specs.Directive.{Effect, sets, refuses, effect}
 use Rattle.prolog_reader.specs.Reading.{Fault, Answer, before_rest, clause_at, clause_fault, with_clause, IsLeft, clause_tokens, ReadsBy, Answers, all_read, stops, bad_operator, one_more, IsTextAnswer, too_long, by_clauses, query_tokens, query_answer, IsQueryAnswer, too_long_query, by_tokens}

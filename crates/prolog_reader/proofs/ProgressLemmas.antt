@@ -18,17 +18,17 @@ use Rattle.prolog_reader.specs.declared.clause_reading.Found.TheVariants as foun
 use Rattle.prolog_reader.specs.declared.fault.ReadKind.TheVariants.{Lex, Unexpected, Deep}
 use Rattle.prolog_operators.specs.declared.operators.Ops.{Ops}
 use Rattle.prolog_terms.specs.declared.symbol.Known.{Known as CodeKnown}
-use Rattle.prolog_reader.specs.declared.part.Part.{Part as CodePart}
-use Rattle.prolog_reader.specs.declared.state.State.{State as CodeState}
-use Rattle.prolog_reader.specs.declared.state.State.TheVariants as state
-use Rattle.prolog_reader.specs.declared.state.Refusal.{Refusal}
-use Rattle.prolog_reader.specs.declared.state.Refusal.TheVariants as refusal
-use Rattle.prolog_reader.specs.declared.state.Step.{Step}
-use Rattle.prolog_reader.specs.declared.state.Step.TheVariants as code
+use Rattle.term_parser.specs.declared.part.Part.{Part as CodePart}
+use Rattle.term_parser.specs.declared.state.State.{State as CodeState}
+use Rattle.term_parser.specs.declared.state.State.TheVariants as state
+use Rattle.term_parser.specs.declared.state.Refusal.{Refusal}
+use Rattle.term_parser.specs.declared.state.Refusal.TheVariants as refusal
+use Rattle.term_parser.specs.declared.state.Step.{Step}
+use Rattle.term_parser.specs.declared.state.Step.TheVariants as code
 use Rattle.prolog_reader.specs.FoundFit.{AreWithin, IsClauseFit, IsFoundFit}
 use Rattle.prolog_reader.specs.Measures.{weight, state_nodes, stack_nodes, IsStackFine}
 use Rattle.prolog_operators.specs.Names.{Extends}
-use Rattle.prolog_reader.specs.Parsing.{rules, frames}
+use Rattle.term_parser.specs.Parsing.{rules, frames}
 use Rattle.prolog_reader.specs.Progress.{text_of, table, known, seen, IsSame, Start, Begins, IsReady, AreNamed, IsTaken, advanced, IsClause, IsRefusal, IsEnd, IsFound, IsMoved, Running, Taken, IsBefore, IsAfter}
 use Rattle.prolog_reader.specs.Ranges.{IsWithin}
 use Rattle.prolog_reader.specs.Scan.{closing_of, Finds, IsNextFault, Closes}
@@ -37,8 +37,8 @@ use Rattle.prolog_terms.specs.Terms.{tree_of, clause_of}
 use Rattle.prolog_reader.specs.Words.{known as known_names}
 use Rattle.prolog_terms.specs.Clauses.{Clause}
 use Rattle.prolog_reader.specs.Naming.{with_names, token_texts}
-use Rattle.prolog_reader.specs.Limits.{most_openers}
-use Rattle.prolog_reader.specs.Views.{rules_of, known_of, part_view, state_of, step_of}
+use Rattle.term_parser.specs.Limits.{most_openers}
+use Rattle.term_parser.specs.Views.{rules_of, known_of, part_view, state_of, step_of}
 use Rattle.prolog_reader.proofs.FitLemmas.{known_within, next_fine, next_within, clause_fit}
 use Rattle.prolog_reader.proofs.LexLemmas.{cursor}
 use Rattle.prolog_reader.proofs.MeasureLemmas.{token_more}

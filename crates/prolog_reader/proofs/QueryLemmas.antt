@@ -20,7 +20,7 @@ use Rattle.prolog_terms.specs.Clauses.{Clause}
 use Rattle.prolog_operators.specs.Names.{Extends}
 use Rattle.prolog_terms.specs.Symbols.{Seen}
 use Rattle.prolog_operators.specs.Table.{Table}
-use Rattle.prolog_reader.specs.Views.{table_rules}
+use Rattle.term_parser.specs.Views.{table_rules}
 use Rattle.prolog_reader.specs.Words.{known}
 use Rattle.prolog_reader.specs.Reading.{Fault, fault_at, before_rest, ReadsBy, query_tokens, query_answer, if_nothing_left, end_of, by_tokens}
 use Rattle.prolog_reader.specs.Answers.{AnswersQuery}

@@ -22,7 +22,7 @@ use Rattle.prolog_terms.specs.Clauses.{Clause}
 use Rattle.prolog_operators.specs.Names.{Extends}
 use Rattle.prolog_terms.specs.Symbols.{Seen, none_seen, token_of, kind_seen, seen_after}
 use Rattle.prolog_operators.specs.Table.{Table}
-use Rattle.prolog_reader.specs.Views.{from_tree, table_rules}
+use Rattle.term_parser.specs.Views.{from_tree, table_rules}
 use Rattle.prolog_reader.specs.Reading.{fault_at}
 use Rattle.prolog_reader.specs.Words.{known}
 use Rattle.prolog_reader.specs.Progress.{Running, Taken}

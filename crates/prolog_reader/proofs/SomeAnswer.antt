@@ -14,7 +14,7 @@ use Rattle.prolog_reader.specs.declared.fault.ReadKind.TheVariants.{Long, BadOp}
 use Rattle.prolog_terms.specs.Clauses.{Clause}
 use Rattle.prolog_terms.specs.Symbols.{Seen, none_seen, tokens_of, seen_after}
 use Rattle.prolog_operators.specs.Table.{Table, standard}
-use Rattle.prolog_reader.specs.Views.{table_rules}
+use Rattle.term_parser.specs.Views.{table_rules}
 use Rattle.prolog_reader.specs.Words.{known, words_of}
 use Rattle.prolog_reader.specs.Directive.{Effect, sets, refuses, effect}
 use Rattle.prolog_reader.specs.Reading.{Fault, Answer, before_rest, clause_at, clause_fault, with_clause, clause_tokens, ReadsBy, Answers, all_read, stops, bad_operator, one_more, IsTextAnswer, too_long, by_clauses, query_tokens, query_answer, IsQueryAnswer, too_long_query, by_tokens}

@@ -7,7 +7,7 @@ use Rattle.prolog_reader.specs.declared.words.Words.{Words as CodeWords}
 use Rattle.prolog_terms.specs.declared.symbol.Known.{Known as CodeKnown}
 use Rattle.prolog_operators.specs.Names.{Extends}
 use Rattle.prolog_reader.specs.Words.{Words, known, words_of}
-use Rattle.prolog_reader.specs.Views.{known_of}
+use Rattle.term_parser.specs.Views.{known_of}
 
 -- they are these, whatever names come later
 abbrev pub AreKnown : List (List ℕ) → CodeKnown → Type 0

@@ -5,8 +5,6 @@ pub mod Limits
 pub mod Fit
 pub mod Places
 pub mod Naming
-pub mod Views
-pub mod Parsing
 pub mod Directive
 pub mod Reading
 pub mod Ranges

@@ -7,7 +7,3 @@ use Rattle.std.specs.Prelude.{ℕ}
 -- the most bytes of a text
 abbrev pub most_bytes : ℕ
 most_bytes = 1048576
-
--- the most openers under which an operand may begin
-abbrev pub most_openers : ℕ
-most_openers = 1000

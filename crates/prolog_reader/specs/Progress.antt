@@ -18,25 +18,26 @@ use Rattle.prolog_reader.specs.declared.clause_reading.Found.{Found}
 use Rattle.prolog_reader.specs.declared.clause_reading.Found.TheVariants as found
 use Rattle.prolog_reader.specs.declared.fault.ReadKind.{ReadKind}
 use Rattle.prolog_reader.specs.declared.fault.ReadKind.TheVariants.{Unexpected, Deep}
-use Rattle.prolog_reader.specs.declared.part.Part.{Part as CodePart}
-use Rattle.prolog_reader.specs.declared.state.State.{State as CodeState}
-use Rattle.prolog_reader.specs.declared.state.Refusal.{Refusal}
-use Rattle.prolog_reader.specs.declared.state.Refusal.TheVariants as refusal
-use Rattle.prolog_reader.specs.declared.state.Step.{Step}
+use Rattle.term_parser.specs.declared.part.Part.{Part as CodePart}
+use Rattle.term_parser.specs.declared.state.State.{State as CodeState}
+use Rattle.term_parser.specs.declared.state.Refusal.{Refusal}
+use Rattle.term_parser.specs.declared.state.Refusal.TheVariants as refusal
+use Rattle.term_parser.specs.declared.state.Step.{Step}
 use Rattle.prolog_reader.specs.FoundFit.{AreWithin, IsFoundFit}
 use Rattle.prolog_reader.specs.Knowing.{AreKnown}
-use Rattle.prolog_reader.specs.Limits.{most_bytes, most_openers}
+use Rattle.prolog_reader.specs.Limits.{most_bytes}
+use Rattle.term_parser.specs.Limits.{most_openers}
 use Rattle.prolog_operators.specs.Meanings.{table_of}
 use Rattle.prolog_reader.specs.Measures.{IsStateFine, IsNextFine, IsTokenFine, NextWithin, state_nodes}
 use Rattle.prolog_operators.specs.Names.{Extends}
 use Rattle.prolog_reader.specs.Naming.{with_names, token_texts, name_texts}
 use Rattle.prolog_terms.specs.Numbering.{seen_of, AreNumbered}
-use Rattle.prolog_reader.specs.Parsing.{rules, frames, IsIn}
+use Rattle.term_parser.specs.Parsing.{rules, frames, IsIn}
 use Rattle.prolog_reader.specs.Ranges.{IsWithin}
 use Rattle.prolog_reader.specs.Scan.{scanned, scan, closing_of, Finds, IsNextFault, Closes, Names as ReadNames}
 use Rattle.prolog_terms.specs.Symbols.{Seen, none_seen, token_of, seen_after}
 use Rattle.prolog_operators.specs.Table.{Table}
-use Rattle.prolog_reader.specs.Views.{known_of, state_of, step_of, IsCounted, FitsStep}
+use Rattle.term_parser.specs.Views.{known_of, state_of, step_of, IsCounted, FitsStep}
 
 -- what a reader reads, the operators and names by which it does, and the variables so far
 abbrev pub text_of : ClauseReader → List ℕ

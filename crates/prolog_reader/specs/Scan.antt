@@ -19,7 +19,7 @@ use Rattle.prolog_terms.specs.Terms.{clause_of}
 use Rattle.prolog_reader.specs.Naming.{with_names, name_texts}
 use Rattle.prolog_terms.specs.Symbols.{Seen, none_seen, token_of, tokens_of, seen_after}
 use Rattle.prolog_operators.specs.Table.{Table}
-use Rattle.prolog_reader.specs.Views.{table_rules}
+use Rattle.term_parser.specs.Views.{table_rules}
 use Rattle.prolog_reader.specs.Reading.{Fault, fault_at, end_of}
 use Rattle.prolog_reader.specs.Words.{known}
 

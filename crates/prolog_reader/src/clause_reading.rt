@@ -8,7 +8,7 @@ ghost use Rattle.prolog_tokens.specs.declared.token.Token.{Token as TextToken};
 ghost use Rattle.prolog_tokens.specs.declared.fault.LexFault.{LexFault};
 ghost use Rattle.prolog_reader.specs.Limits.{most_bytes};
 ghost use Rattle.prolog_operators.specs.Meanings.{table_of};
-ghost use Rattle.prolog_reader.specs.Parsing.{IsIn};
+ghost use Rattle.term_parser.specs.Parsing.{IsIn};
 ghost use Rattle.prolog_reader.specs.Progress.{start_of, Begins, IsFound, IsMoved, IsReady, IsTaken, AreNamed, advanced, IsClause, IsRefusal, IsEnd, end_kind};
 ghost use Rattle.prolog_operators.specs.Names.{Extends};
 ghost use Rattle.prolog_reader.specs.Knowing.{AreKnown};
@@ -17,15 +17,13 @@ ghost use Rattle.prolog_reader.specs.FoundFit.{IsFoundFit};
 ghost use Rattle.prolog_reader.specs.Scan.{closing_of, IsNextFault, Finds, Names as ReadNames};
 
 use crate::fault::ReadKind;
-use crate::parser::Parser;
-use crate::part::Part;
-use crate::state::{Refusal, State, Step};
 use crate::symbols::next_symbol;
 use cti_terms::Names;
 use prolog_operators::{MOST_PRIORITY, Ops};
 use prolog_terms::{Known, ReadClause, Symbol, Variables};
 use prolog_tokens::{Lexer, Token};
 use std::alloc::{AllocError, Global};
+use term_parser::{Parser, Part, Refusal, State, Step};
 
 /// What reading a clause comes to.
 #[derive(Drop)]

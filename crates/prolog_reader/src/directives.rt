@@ -5,7 +5,7 @@ ghost use Rattle.prolog_terms.specs.Terms.{tree_of};
 ghost use Rattle.prolog_operators.specs.Meanings.{table_of};
 ghost use Rattle.prolog_reader.specs.Directive.{Effect, sets, refuses, parts_of, atom_of, priority_of, kind_named, kind_of, is_barred, operator_of, listed, operators_of, effect_of, directive_by, effect};
 ghost use Rattle.prolog_reader.specs.Knowing.{words_view, done_effect};
-ghost use Rattle.prolog_reader.specs.Views.{known_of};
+ghost use Rattle.term_parser.specs.Views.{known_of};
 
 use crate::words::Words;
 use cti_terms::Name;

@@ -10,7 +10,7 @@ ghost use Rattle.prolog_operators.specs.Names.{Extends, IsNumber};
 ghost use Rattle.prolog_reader.specs.Naming.{with_names, token_texts};
 ghost use Rattle.prolog_terms.specs.Symbols.{is_minus, touches_before, joins_before, token_of as plain_token, seen_after};
 ghost use Rattle.prolog_terms.specs.Numbering.{seen_of, AreNumbered};
-ghost use Rattle.prolog_reader.specs.Views.{token_of};
+ghost use Rattle.term_parser.specs.Views.{token_of};
 ghost use Rattle.prolog_reader.specs.Ranges.{IsWithin};
 ghost use Rattle.prolog_reader.specs.Measures.{IsTokenFine};
 

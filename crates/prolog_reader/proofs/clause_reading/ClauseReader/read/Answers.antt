@@ -1,7 +1,7 @@
 use Rattle.std.proofs.Common.{refl, sym, ap, subst, arith, length, ℕ, List}
 use Rattle.prolog_tokens.specs.Cursor.{Cursor}
 use Rattle.prolog_reader.specs.declared.clause_reading.ClauseReader.{ClauseReader}
-use Rattle.prolog_reader.specs.declared.state.Step.TheVariants as code
+use Rattle.term_parser.specs.declared.state.Step.TheVariants as code
 use Rattle.prolog_reader.specs.Progress.{start_of, IsBefore}
 use Rattle.prolog_reader.proofs.ProgressLemmas.{before_first, is_ready, is_after, is_next, is_clause, is_refused, is_lexical_fault, is_end, is_moved, is_moved_here, is_broken}
 use Rattle.prolog_reader.proofs.clause_reading.ClauseReader.read.Goals as goal

@@ -1,6 +1,6 @@
 use Rattle.std.proofs.Common.{Bor, refl, ap}
 use Rattle.prolog_operators.specs.declared.operators.Ops.{Ops}
-use Rattle.prolog_reader.specs.Views.{token_of}
+use Rattle.term_parser.specs.Views.{token_of}
 use Rattle.prolog_reader.proofs.clause_reading.ClauseReader.take.Goals as goal
 
 pub next_symbol-requires-clause-given : goal.next_symbol-requires-clause-given

@@ -1,0 +1,3 @@
+pub mod MachineLemmas
+pub mod StackLemmas
+pub mod WalkLemmas
