@@ -1,5 +1,3 @@
-pub mod Points
-pub mod Refutations
 pub mod RowLists
 pub mod TestLaws
 pub mod WideTests

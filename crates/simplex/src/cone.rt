@@ -11,13 +11,13 @@ ghost use Rattle.std.specs.Prelude.{◌≡◌, length};
 ghost use Rattle.linear_rows.specs.Plain.{HaveWidth};
 
 use crate::basis::{Basis, Member};
-use crate::finding::{is_point, most_pivots, value_at};
 use crate::held::Held;
 use crate::integers::{product, quotient, shared_by};
 use exact128::{plus, times};
 use exact256::{Integer, is_less_product};
 use linear_rows::{Multipliers, Numbers, Point, Row, Rows};
 use std::alloc::{AllocError, Global};
+use tableaux::{is_point, most_pivots, value_at};
 
 /// After so many pivots of a search the smallest indices are chosen.
 const EARLY_PIVOTS: usize = 40;

@@ -6,9 +6,9 @@ ghost use Rattle.linear_rows.specs.Blown.{all_of};
 ghost use Rattle.linear_rows.specs.Plain.{plain_row, plain_rows, HaveWidth};
 ghost use Rattle.linear_rows.specs.Showing.{FailsAt, Shows};
 
-use crate::finding::{are_natural, is_point, value_at};
 use exact128::fits;
 use linear_rows::{Multipliers, Point, Proof, Row, Rows, proves};
+use tableaux::{are_natural, is_point, value_at};
 
 /// Whether a row is seen to fail at a point at which all rows are seen to hold, in numbers that fit.
 pub fn fails_at(rows: &Rows, row: &Row, point: &Point) -> bool

@@ -6,10 +6,10 @@ ghost use Rattle.linear_rows.specs.Solving.{solution};
 ghost use Rattle.fourier.specs.Solves.{Decides, RefutesInFit};
 ghost use Rattle.simplex.specs.Solving.{IsBlownAs};
 
-use crate::finding::found;
 use fourier::{ElimFault, Solved};
 use linear_rows::Rows;
 use std::alloc::Global;
+use tableaux::found;
 
 /// Finds a point at which all rows hold, or multipliers that show that they hold nowhere.
 ///

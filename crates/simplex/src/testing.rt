@@ -12,13 +12,13 @@ ghost use Rattle.simplex.specs.Telling.{IsTest, Tells, TellsIfFits, ShowsIfFits}
 
 use crate::basis::Basis;
 use crate::cone::searched;
-use crate::finding::found;
 use crate::held::Held;
 use crate::showing::{fails_at, shows};
 use crate::systems::test_system;
 use fourier::Solved;
 use linear_rows::{Multipliers, Numbers, Point, Proof, Row, Rows, proves};
 use std::alloc::{AllocError, Global};
+use tableaux::found;
 
 /// The multipliers of the rows and the scale of the target, if their test is in numbers that fit.
 fn shown(rows: &Rows, target: &Row, by: Multipliers) -> Option<Multipliers>

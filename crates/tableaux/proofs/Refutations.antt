@@ -8,8 +8,8 @@ use Rattle.linear_rows.specs.Showing.{bottom_row}
 use Rattle.linear_rows.specs.Verdict.{Says}
 use Rattle.linear_rows.specs.declared.multipliers.Proof.TheVariants.{Holds}
 use Rattle.fourier.specs.declared.solved.Solved.TheVariants.{Refuted}
-use Rattle.simplex.specs.Solving.{Solves}
-use Rattle.simplex.proofs.RowLists.{length-zeros}
+use Rattle.tableaux.specs.Finding.{Solves}
+use Rattle.linear_rows.proofs.Refutes.{length-zeros}
 
 same_goal : (a b : List ℤ) (k : ℕ) → goal_number (pos 0) a k ≡ goal_number (pos 0) b k
 same_goal a b zero = refl

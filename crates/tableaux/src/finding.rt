@@ -4,7 +4,7 @@ ghost use Rattle.std.specs.Prelude.{◌≡◌, ◌∷◌, ◌≤ℤ◌, ◌+◌,
 ghost use Rattle.exact128.specs.Sums.{dot};
 ghost use Rattle.linear_rows.specs.Plain.{plain_row, plain_rows, HaveWidth};
 ghost use Rattle.linear_rows.specs.Rows.{IsPoint};
-ghost use Rattle.simplex.specs.Solving.{Solves};
+ghost use Rattle.tableaux.specs.Finding.{Solves};
 
 use crate::tableau::{End, Tableau};
 use exact128::{plus, sum_of_products, times};

@@ -3,8 +3,8 @@ use Rattle.std.specs.Int.{w128}
 use Rattle.std.specs.Prelude.{FitsSigned}
 use Rattle.std.proofs.lemmas.Int.{to_z-of_z}
 use Rattle.exact128.specs.Sums.{dot}
-use Rattle.simplex.proofs.Points.{value_is}
-use Rattle.simplex.proofs.finding.value_at.Goals as goal
+use Rattle.tableaux.proofs.Points.{value_is}
+use Rattle.tableaux.proofs.finding.value_at.Goals as goal
 
 pub returns : goal.returns
 returns c =

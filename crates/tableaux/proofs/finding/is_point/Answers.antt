@@ -2,8 +2,8 @@ use Rattle.std.proofs.Common.{rules, ◌≡◌, ◌≤◌, true, pos, length, ar
 use Rattle.std.specs.Int.{w128}
 use Rattle.std.specs.Prelude.{FitsSigned, ◌≤ℤ◌}
 use Rattle.std.proofs.lemmas.Int.{to_z-of_z, ints}
-use Rattle.simplex.proofs.Points.{point_is}
-use Rattle.simplex.proofs.finding.is_point.Goals as goal
+use Rattle.tableaux.proofs.Points.{point_is}
+use Rattle.tableaux.proofs.finding.is_point.Goals as goal
 
 pub returns : goal.returns
 returns c =

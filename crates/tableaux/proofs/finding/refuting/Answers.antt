@@ -5,8 +5,8 @@ use Rattle.linear_rows.specs.Plain.{plain_row, plain_rows}
 use Rattle.linear_rows.specs.Showing.{bottom_row}
 use Rattle.linear_rows.specs.Verdict.{Says}
 use Rattle.linear_rows.specs.declared.multipliers.Proof.TheVariants.{Holds}
-use Rattle.simplex.proofs.Refutations.{length-bottom, refutes_rows}
-use Rattle.simplex.proofs.finding.refuting.Goals as goal
+use Rattle.tableaux.proofs.Refutations.{length-bottom, refutes_rows}
+use Rattle.tableaux.proofs.finding.refuting.Goals as goal
 
 pub proves-requires-clause-target : goal.proves-requires-clause-target
 proves-requires-clause-target c = omega (arith, ap length c.in_ok-bottom.ensures, length-bottom c.args.rows.now.width)
