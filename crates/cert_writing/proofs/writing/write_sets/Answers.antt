@@ -1,4 +1,4 @@
-use Rattle.std.proofs.Common.{◌≡◌, ◌++◌, ◌∙◌, OnOk, ap, subst}
+use Rattle.std.proofs.Common.{◌≡◌, ◌++◌, OnOk, subst}
 use Rattle.std.proofs.lemmas.List.{append_assoc}
 use Rattle.cert_structure.specs.Order.{mode_facts, size_facts, proof_facts, ground_facts}
 use Rattle.cert_writing.proofs.writing.write_sets.Goals as goal
