@@ -33,6 +33,7 @@ LOOP = [("cti_top", "Loops", None), ("loop_finder", "Finding", ["IsLooked"]), ("
 PROCEDURES = {
     "linear_rows": {"Elimination", "Equation", "Cleaning", "Step", "Blown", "Solving", "Systems", "Irredundant"},
     "termination_model": {"BlownSupports", "SupportSystem", "ChainLicences", "Replacing", "ShortSystems"},
+    "sparse_rows": None,
     "fourier": None,
 }
 

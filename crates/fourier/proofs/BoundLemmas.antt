@@ -1,5 +1,5 @@
 -- Bounds and values, a number or a row at a time.
-use Rattle.std.proofs.Common.{◌≡◌, ◌≢◌, ℕ, zero, suc, ℤ, pos, List, [], ◌∷◌, ◌+◌, ◌<◌, ◌≤◌, Bool, true, false, cond, Option, Some, None, drop, length, get_or, refl, sym, ap, ◌∙◌, arith}
+use Rattle.std.proofs.Common.{◌≡◌, ◌≢◌, ℕ, suc, ℤ, pos, List, [], ◌∷◌, ◌+◌, ◌<◌, ◌≤◌, Bool, true, false, cond, Option, Some, None, drop, length, get_or, refl, sym, ap, ◌∙◌, arith}
 use Rattle.std.specs.Prelude.{◌≤ℤ◌, ◌*ℤ◌, int_lt}
 use Rattle.std.specs.Ordering.{int_cmp, is_gt}
 use Rattle.std.specs.declared.cmp.Ordering.{Ordering}
@@ -18,6 +18,7 @@ use Rattle.exact128.proofs.FractionFits.{exceeds_some}
 use Rattle.exact128.proofs.FractionOrders.{same_order}
 use Rattle.linear_rows.specs.Elimination.{rising, is_positive}
 use Rattle.linear_rows.specs.Solving.{sum_on, negated, bound, greatest}
+use Rattle.sparse_rows.proofs.SparseLemmas.{drop-all}
 
 pub gcd-one : (n : ℕ) → gcd n 1 ≡ 1
 gcd-one n = same_from_IsGcd n 1 (gcd n 1) 1 (gcd_is n 1) (one-dvd n, one-dvd 1, λ d x y. y)
@@ -84,12 +85,6 @@ pub sum_stops : (s : Fraction) (row : List ℤ) (vs : List Fraction) (from j : �
     sum_on s (drop (from + j) row) (drop j vs) ≡ all → sum_on s (entry row (from + j) ∷ []) (v ∷ []) ≡ None → all ≡ None
 sum_stops s row vs from j v all p q e is n =
     sym is ∙ from_here s row vs (from + j) j v p q e ∙ ap (λ o. then_do o (λ z. sum_on z (drop (suc (from + j)) row) (drop (suc j) vs))) n
-
-pub drop-all : {A : Type 0} (i : ℕ) (xs : List A) → length xs ≤ i → drop i xs ≡ []
-drop-all zero [] h = refl
-drop-all zero (x ∷ xs) h = absurd (omega arith)
-drop-all (suc i) [] h = refl
-drop-all (suc i) (x ∷ xs) h = drop-all i xs (omega arith)
 
 pub sum_ends : (s : Fraction) (row : List ℤ) (vs : List Fraction) (i j : ℕ) (all : Option Fraction) → length vs ≤ j → sum_on s (drop i row) (drop j vs) ≡ all → all ≡ Some s
 sum_ends s row vs i j all h is = sym is ∙ ap (sum_on s (drop i row)) (drop-all j vs h) ∙ nothing (drop i row)

@@ -2,7 +2,7 @@
 use Rattle.std.proofs.Common.{◌≡◌, ℕ, zero, suc, ℤ, List, [], ◌∷◌, ◌++◌, append_assoc, append-nil, ◌+◌, ◌<◌, ◌≤◌, Bool, true, false, cond, Option, Some, None, Err, refl, sym, subst, ap, ◌∙◌, arith}
 use Rattle.linear_rows.specs.Blown.{numbers_fit, step_fault, blown_from, blown_step, or_else}
 use Rattle.linear_rows.specs.Step.{eliminated, all_eliminated, columns}
-use Rattle.fourier.specs.Adding.{AllFit, AllLong}
+use Rattle.sparse_rows.specs.Adding.{AllFit, AllLong}
 use Rattle.fourier.specs.History.{history_of, IsBlownAt, StepsSay}
 use Rattle.fourier.specs.declared.fault.StepFault.{StepFault}
 use Rattle.fourier.specs.declared.fault.StepFault.TheVariants.{Wide, Many, Memory}

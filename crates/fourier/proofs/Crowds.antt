@@ -1,7 +1,7 @@
 -- Loops that stop once too many rows are kept.
 use Rattle.std.proofs.Common.{◌≡◌, ℕ, zero, suc, ℤ, List, [], ◌∷◌, ◌++◌, ◌<◌, Bool, true, false, cond, take, drop, length, refl, sym, ap, ◌∙◌}
 use Rattle.std.specs.Prelude.{fold, filter}
-use Rattle.fourier.specs.Adding.{add_rows}
+use Rattle.sparse_rows.specs.Adding.{add_rows}
 use Rattle.fourier.proofs.Loops.{fold-append}
 use Rattle.fourier.proofs.StepLemmas.{added_full}
 

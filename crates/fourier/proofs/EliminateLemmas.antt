@@ -11,7 +11,7 @@ use Rattle.linear_rows.specs.declared.row.Row.{Row}
 use Rattle.linear_rows.proofs.Members.{to_All}
 use Rattle.linear_rows.proofs.Whole.{left_on, kept_on, back_on}
 use Rattle.linear_rows.proofs.Origins.{gone}
-use Rattle.fourier.specs.Adding.{AllLong}
+use Rattle.sparse_rows.specs.Adding.{AllLong}
 use Rattle.fourier.specs.Saying.{Eliminates, EliminatesAll}
 use Rattle.fourier.specs.declared.fault.ElimFault.{ElimFault}
 use Rattle.fourier.specs.declared.fault.ElimFault.TheVariants.{Blown, Memory}

@@ -6,19 +6,6 @@ use Rattle.exact128.specs.Sums.{entry}
 use Rattle.linear_rows.specs.Elimination.{is_positive}
 use Rattle.linear_rows.specs.Equation.{negates, place_of, equation_from}
 
-pub place_first : {X : Type 0} (p : X → Bool) (xs : List X) (j : ℕ) (d : X) → j < length xs → ((i : ℕ) → i < j → p (get_or xs i d) ≡ false) → p (get_or xs j d) ≡ true → j ≡ place_of p xs
-place_first p [] j d h n e = absurd (omega arith)
-place_first p (x ∷ xs) zero d h n e = rw e refl
-place_first p (x ∷ xs) (suc j) d h n e =
-    let f = n 0 (omega arith) in
-    rw f (ap suc (place_first p xs j d (omega arith) (λ i l. n (suc i) (omega arith)) e))
-
-pub place_none : {X : Type 0} (p : X → Bool) (xs : List X) (d : X) → ((i : ℕ) → i < length xs → p (get_or xs i d) ≡ false) → length xs ≡ place_of p xs
-place_none p [] d n = refl
-place_none p (x ∷ xs) d n =
-    let f = n 0 (omega arith) in
-    rw f (ap suc (place_none p xs d (λ i l. n (suc i) (omega arith))))
-
 -- a place within the list is one that passes
 pub any_from_place : {X : Type 0} (p : X → Bool) (xs : List X) → place_of p xs < length xs → list_any p xs ≡ true
 any_from_place p [] h = absurd (omega arith)

@@ -1,9 +1,7 @@
 pub mod Sequences
 pub mod Loops
-pub mod Alls
-pub mod NumberTests
 pub mod Finds
-pub mod Adds
+pub mod Factors
 pub mod Solveds
 pub mod StepLemmas
 pub mod Stays
@@ -14,8 +12,5 @@ pub mod BoundLemmas
 pub mod ValueLemmas
 pub mod CheckLemmas
 pub mod SolveLemmas
-pub mod SparseLemmas
 pub mod Crowds
-pub mod MarkLemmas
 pub mod SmallLemmas
-pub mod WalkLemmas

@@ -1,4 +1,4 @@
--- Loops that add the rows of a list with a property.
+-- Loops that take one step for each row with a property.
 use Rattle.std.proofs.Common.{◌≡◌, ℕ, zero, suc, ℤ, pos, List, [], ◌∷◌, ◌++◌, ◌+◌, ◌<◌, ◌≤◌, Bool, true, false, cond, map, take, length, get_or, refl, sym, subst, ap, ◌∙◌, arith, ◌^◌, ◌/◌}
 use Rattle.std.specs.Prelude.{All, fold, filter, ◌&&◌, unsigned_abs, ◌+ℤ◌, ◌*ℤ◌}
 use Rattle.std.specs.List.{flat_map}
@@ -7,22 +7,19 @@ use Rattle.exact128.specs.Fits.{Fits, fits}
 use Rattle.exact128.specs.Sums.{entry}
 use Rattle.linear_rows.specs.Elimination.{crossed}
 use Rattle.linear_rows.specs.Blown.{all_of, crossed_fits, blend_fits}
-use Rattle.fourier.specs.Blending.{blended}
-use Rattle.fourier.specs.Adding.{add_row, add_rows, AllFit, AllLong}
+use Rattle.sparse_rows.specs.Blending.{blended}
+use Rattle.sparse_rows.specs.Adding.{AllFit, AllLong}
 use Rattle.exact128.specs.Gcd.{gcd}
 use Rattle.std.proofs.lemmas.Bool.{ltb-true}
 use Rattle.std.proofs.lemmas.List.Elements.{All-cons}
 use Rattle.exact128.proofs.FitsLemmas.{both}
-use Rattle.fourier.proofs.NumberTests.{entry_fits}
+use Rattle.sparse_rows.proofs.NumberTests.{entry_fits}
+use Rattle.sparse_rows.proofs.Added.{fold-more, filter_yes, filter_no, take_all}
 
 -- the state after the items so far: one step each, and each passes
 pub record Done {K X : Type 0} (G : K → X → K) (q : X → Bool) (start : K) (xs : List X) (kept : K) : Type 0 where
   pub kept_is : kept ≡ fold G start xs
   pub pass : all_of q xs ≡ true
-
-fold-more : {K X : Type 0} (G : K → X → K) (start : K) (xs : List X) (x : X) → fold G start (xs ++ x ∷ []) ≡ G (fold G start xs) x
-fold-more G start [] x = refl
-fold-more G start (y ∷ ys) x = fold-more G (G start y) ys x
 
 all_of-more : {X : Type 0} (q : X → Bool) (xs : List X) (x : X) → all_of q xs ≡ true → q x ≡ true → all_of q (xs ++ x ∷ []) ≡ true
 all_of-more q [] x h e = both_true e refl
@@ -36,31 +33,6 @@ done_more G q start kept next xs x d e p = record {
   kept_is = e ∙ ap (λ k. G k x) d.kept_is ∙ sym (fold-more G start xs x);
   pass = all_of-more q xs x d.pass p;
 }
-
--- one more of a list with a property
-pub filter_yes : {X : Type 0} (p : X → Bool) (xs : List X) (i : ℕ) (d : X) → i < length xs → p (get_or xs i d) ≡ true → filter p (take i xs) ++ get_or xs i d ∷ [] ≡ filter p (take (i + 1) xs)
-filter_yes p [] i d h e = absurd (omega arith)
-filter_yes p (x ∷ xs) zero d h e = rw e refl
-filter_yes {X} p (x ∷ xs) (suc i) d h e =
-    let one : suc i + 1 ≡ suc (i + 1) = omega arith in
-    front (filter p (take i xs)) (filter p (take (i + 1) xs)) (p x) (filter_yes p xs i d (omega arith) e) ∙ ap (λ k. filter p (take k (x ∷ xs))) (sym one)
-  where
-    front : (ys zs : List X) (b : Bool) → ys ++ get_or xs i d ∷ [] ≡ zs → cond b (x ∷ ys) ys ++ get_or xs i d ∷ [] ≡ cond b (x ∷ zs) zs
-    front ys zs true e = ap (λ l. x ∷ l) e
-    front ys zs false e = e
-
-pub filter_no : {X : Type 0} (p : X → Bool) (xs : List X) (i : ℕ) (d : X) → i < length xs → p (get_or xs i d) ≡ false → filter p (take i xs) ≡ filter p (take (i + 1) xs)
-filter_no p [] i d h e = absurd (omega arith)
-filter_no p (x ∷ xs) zero d h e = rw e refl
-filter_no p (x ∷ xs) (suc i) d h e =
-    let one : suc i + 1 ≡ suc (i + 1) = omega arith in
-    ap (λ l. cond (p x) (x ∷ l) l) (filter_no p xs i d (omega arith) e) ∙ ap (λ k. filter p (take k (x ∷ xs))) (sym one)
-
-pub take_all : {X : Type 0} (xs : List X) (n : ℕ) → length xs ≤ n → take n xs ≡ xs
-take_all [] zero h = refl
-take_all [] (suc n) h = refl
-take_all (x ∷ xs) zero h = absurd (omega arith)
-take_all (x ∷ xs) (suc n) h = ap (λ l. x ∷ l) (take_all xs n (omega arith))
 
 -- an item that does not pass
 pub not_all : {X : Type 0} (p q : X → Bool) (xs : List X) (i : ℕ) (d : X) → i < length xs → p (get_or xs i d) ≡ true → q (get_or xs i d) ≡ false → all_of q (filter p xs) ≡ false
@@ -113,21 +85,6 @@ unfolding crossed crossed_fits
 crossed_fit k r s row el e is =
     let g = gcd (unsigned_abs (entry r k)) (unsigned_abs (entry s k)) in
     subst (All Fits) (sym is) (blended_fit (pos (unsigned_abs (entry s k) / g)) (pos (unsigned_abs (entry r k) / g)) r s el e)
-
--- ---- rows that are added, each where it has a property
-pub added_yes : (m : ℕ) (p : List ℤ → Bool) (start kept next rows : List (List ℤ)) (i : ℕ) (row : List ℤ) → i < length rows → kept ≡ add_rows m start (filter p (take i rows)) → p (get_or rows i []) ≡ true → row ≡ get_or rows i [] →
-    next ≡ add_row m kept row → next ≡ add_rows m start (filter p (take (i + 1) rows))
-added_yes m p start kept next rows i row h k e is n =
-    n ∙ both_same kept _ row _ k is ∙ sym (fold-more (add_row m) start (filter p (take i rows)) (get_or rows i [])) ∙ ap (λ l. add_rows m start l) (filter_yes p rows i [] h e)
-  where
-    both_same : (x y : List (List ℤ)) (r s : List ℤ) → x ≡ y → r ≡ s → add_row m x r ≡ add_row m y s
-    both_same x y r s e f = cc
-
-pub added_no : (m : ℕ) (p : List ℤ → Bool) (start kept rows : List (List ℤ)) (i : ℕ) → i < length rows → kept ≡ add_rows m start (filter p (take i rows)) → p (get_or rows i []) ≡ false → kept ≡ add_rows m start (filter p (take (i + 1) rows))
-added_no m p start kept rows i h k e = k ∙ ap (λ l. add_rows m start l) (filter_no p rows i [] h e)
-
-pub added_all : (m : ℕ) (p : List ℤ → Bool) (start kept rows : List (List ℤ)) (i : ℕ) → length rows ≤ i → kept ≡ add_rows m start (filter p (take i rows)) → kept ≡ add_rows m start (filter p rows)
-added_all m p start kept rows i h k = k ∙ ap (λ l. add_rows m start (filter p l)) (take_all rows i h)
 
 -- ---- steps that are done, each at an item with a property
 pub done_yes : {K X : Type 0} (G : K → X → K) (q p : X → Bool) (start kept next : K) (rows : List X) (i : ℕ) (d x : X) → i < length rows → Done G q start (filter p (take i rows)) kept → p (get_or rows i d) ≡ true → x ≡ get_or rows i d →

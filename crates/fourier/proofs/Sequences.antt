@@ -2,7 +2,7 @@
 use Rattle.std.proofs.Common.{◌≡◌, ℕ, zero, suc, ℤ, List, ◌+◌, ◌<◌, ◌≤◌, Bool, true, false, cond, Some, None, Err, refl, sym, subst, ap, ◌∙◌, arith}
 use Rattle.linear_rows.specs.Blown.{numbers_fit, step_fits, step_fault, fault_of, blown_from, blown_step, or_else}
 use Rattle.linear_rows.specs.Step.{eliminated, all_eliminated, columns}
-use Rattle.fourier.specs.Adding.{AllFit, AllLong}
+use Rattle.sparse_rows.specs.Adding.{AllFit, AllLong}
 use Rattle.fourier.specs.Saying.{StepSays, EliminatesAll, fault_at}
 use Rattle.fourier.specs.declared.fault.StepFault.{StepFault}
 use Rattle.fourier.specs.declared.fault.StepFault.TheVariants.{Wide, Many, Memory}

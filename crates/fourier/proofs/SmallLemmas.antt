@@ -13,8 +13,8 @@ use Rattle.exact128.proofs.FitsLemmas.{both}
 use Rattle.linear_rows.specs.Elimination.{is_positive, is_negative, rising, falling}
 use Rattle.linear_rows.specs.Blown.{all_of, blend_fits, crossed_fits, crossings_fit}
 use Rattle.fourier.specs.Saying.{FitsUnless}
-use Rattle.fourier.specs.Small.{small}
-use Rattle.fourier.proofs.SparseLemmas.{all_three}
+use Rattle.sparse_rows.specs.Small.{small}
+use Rattle.sparse_rows.proofs.SparseLemmas.{all_three}
 use Rattle.fourier.proofs.StepLemmas.{fits_unless, unless_crowded}
 
 entry_small : (row : List ℤ) (k : ℕ) → all_of small row ≡ true → unsigned_abs (entry row k) < 2 ^ 62

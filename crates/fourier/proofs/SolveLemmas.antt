@@ -14,14 +14,14 @@ use Rattle.linear_rows.specs.Solving.Solution.{Blown, Found, Refuted}
 use Rattle.linear_rows.proofs.Members.{to_All}
 use Rattle.linear_rows.proofs.Founds.{found_holds}
 use Rattle.linear_rows.proofs.Refutes.{start_carries, left_refutes, refuted_refutes}
-use Rattle.fourier.specs.Adding.{AllFit, AllLong}
+use Rattle.sparse_rows.specs.Adding.{AllFit, AllLong}
 use Rattle.fourier.specs.History.{history_of, values_back, AllLongerThan, StepsSay}
 use Rattle.fourier.specs.Solves.{Spells, SpellsUnless, Decides, RefutesInFit, whole_back}
 use Rattle.fourier.specs.declared.fault.ElimFault.{ElimFault}
 use Rattle.fourier.specs.declared.fault.ElimFault.TheVariants.{Blown as BlownFault, Memory}
 use Rattle.fourier.specs.declared.solved.Solved.{Solved}
 use Rattle.fourier.specs.declared.solved.Solved.TheVariants.{Point as PointFound, Refuted as RefutedBy}
-use Rattle.fourier.proofs.Alls.{rows_fit}
+use Rattle.sparse_rows.proofs.Alls.{rows_fit}
 use Rattle.fourier.proofs.CheckLemmas.{all_columns}
 use Rattle.fourier.proofs.Stays.{fit_stays, long_stays}
 use Rattle.fourier.proofs.ValueLemmas.{length-history, values_same}

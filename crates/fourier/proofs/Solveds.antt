@@ -6,7 +6,8 @@ use Rattle.exact128.specs.Sums.{entry}
 use Rattle.linear_rows.specs.Elimination.{crossed, is_positive, is_negative}
 use Rattle.linear_rows.specs.Equation.{other_places, solved_row, solved_rows}
 use Rattle.linear_rows.specs.Blown.{all_of, crossed_fits, solved_fits, solved_rows_fit}
-use Rattle.fourier.specs.Adding.{add_row, add_rows, moves, add_solved, add_solved_fits}
+use Rattle.sparse_rows.specs.Adding.{add_row, add_rows}
+use Rattle.fourier.specs.SolvedRows.{moves, add_solved, add_solved_fits}
 use Rattle.fourier.proofs.Loops.{Done, done_more}
 
 falling_moves : (k : ℕ) (q : List ℤ) → is_negative (entry q k) ≡ true → moves k q ≡ true

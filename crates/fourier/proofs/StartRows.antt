@@ -5,7 +5,7 @@ use Rattle.exact128.specs.Sums.{entry}
 use Rattle.linear_rows.specs.Plain.{plain_row, plain_rows}
 use Rattle.linear_rows.specs.Solving.{zeros, units, floors, coefficients, carried, start_rows}
 use Rattle.linear_rows.specs.declared.row.Row.{Row}
-use Rattle.fourier.proofs.SparseLemmas.{zeros-append}
+use Rattle.sparse_rows.proofs.SparseLemmas.{zeros-append}
 
 -- one more element after what a loop has appended
 pub one_more : {A : Type 0} (old before after cur next : List A) (x : A) → cur ≡ old ++ before → next ≡ cur ++ x ∷ [] → after ≡ before ++ x ∷ [] → next ≡ old ++ after

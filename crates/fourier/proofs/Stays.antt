@@ -14,7 +14,7 @@ use Rattle.linear_rows.specs.Cleaning.{row_gcd}
 use Rattle.linear_rows.specs.Equation.{equation_from, other_places, solved_row, solved_rows, combinations_by, step}
 use Rattle.linear_rows.specs.Blown.{all_of, crossed_fits, solved_fits, crossings_fit, solved_rows_fit, combinations_fit, step_fits}
 use Rattle.linear_rows.specs.Step.{eliminated}
-use Rattle.fourier.specs.Adding.{AllFit, AllLong}
+use Rattle.sparse_rows.specs.Adding.{AllFit, AllLong}
 use Rattle.linear_rows.specs.Members.{In}
 use Rattle.linear_rows.proofs.Members.{of-filter, of-append, of-map, of-flat_map, from_All, to_All}
 use Rattle.exact128.proofs.FitsLemmas.{both}

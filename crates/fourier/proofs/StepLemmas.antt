@@ -8,7 +8,7 @@ use Rattle.linear_rows.specs.Cleaning.{reduced, agree, is_trivial, insert_row}
 use Rattle.linear_rows.specs.Equation.{equation_from, combinations_by, step}
 use Rattle.linear_rows.specs.Blown.{step_fits, step_fault, fault_of, solved_rows_fit, crossings_fit}
 use Rattle.linear_rows.specs.Step.{eliminated}
-use Rattle.fourier.specs.Adding.{insert_clean, add_row, add_rows}
+use Rattle.sparse_rows.specs.Adding.{insert_clean, add_row, add_rows}
 use Rattle.fourier.specs.Saying.{FitsUnless, IsMany}
 
 clean_fold : (m : ℕ) (kept rows : List (List ℤ)) → fold (insert_clean m) kept rows ≡ fold (insert_row m) kept (filter (λ r. not (is_trivial m r)) (map reduced rows))

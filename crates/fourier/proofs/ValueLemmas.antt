@@ -20,7 +20,7 @@ use Rattle.linear_rows.specs.Solving.{greatest, values_of, common_of, made_whole
 use Rattle.linear_rows.specs.Plain.{plain_row}
 use Rattle.linear_rows.specs.declared.row.Row.{Row}
 use Rattle.fourier.specs.History.{history_of, values_back}
-use Rattle.fourier.proofs.BoundLemmas.{drop-all}
+use Rattle.sparse_rows.proofs.SparseLemmas.{drop-all}
 
 -- ---- values, from the last column back
 pub values_more : (i n : ℕ) (hs : List (List (List ℤ))) (rows : List (List ℤ)) (vs : List Fraction) (v : Fraction) → i < length hs → rows ≡ get_or hs i [] → values_back (columns (suc (suc i)) n) (drop (suc i) hs) ≡ Some vs →

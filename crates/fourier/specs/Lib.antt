@@ -1,9 +1,5 @@
-pub mod Blending
-pub mod Adding
+pub mod SolvedRows
 pub mod Saying
 pub mod History
 pub mod Exceeding
 pub mod Solves
-pub mod Sparse
-pub mod Marks
-pub mod Small

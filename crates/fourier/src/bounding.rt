@@ -7,13 +7,11 @@ ghost use Rattle.exact128.specs.Fractions.{whole, exceeds};
 ghost use Rattle.rational128.specs.Formulas.{fraction_of, Gives};
 ghost use Rattle.linear_rows.specs.Elimination.{rising};
 ghost use Rattle.linear_rows.specs.Solving.{sum_on, negated, bound, greatest};
-ghost use Rattle.fourier.specs.Adding.{AllFit};
+ghost use Rattle.sparse_rows.specs.Adding.{AllFit};
 ghost use Rattle.fourier.specs.Exceeding.{Tells};
 
-use crate::line::Line;
-use crate::lines::Lines;
-use crate::sign::is_positive;
 use rational128::{Ratio, Wide};
+use sparse_rows::{Line, Lines, is_positive};
 use std::alloc::Global;
 use std::collections::VecDeque;
 

@@ -5,9 +5,9 @@ ghost use Rattle.exact128.specs.Fits.{Fits};
 ghost use Rattle.linear_rows.specs.Plain.{plain_row, plain_rows, HaveWidth};
 ghost use Rattle.linear_rows.specs.Solving.{sums_fit, point_fits};
 
-use crate::line::Line;
 use exact128::{plus, times};
 use linear_rows::{Numbers, Row, Rows};
+use sparse_rows::Line;
 use std::alloc::{AllocError, Global};
 
 /// Whether the value of each row at a point is formed in numbers that fit.

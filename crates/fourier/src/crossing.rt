@@ -5,17 +5,14 @@ ghost use Rattle.exact128.specs.Fits.{Fits};
 ghost use Rattle.exact128.specs.Sums.{entry};
 ghost use Rattle.linear_rows.specs.Elimination.{crossed, crossings, falling, is_negative};
 ghost use Rattle.linear_rows.specs.Blown.{crossed_fits, crossings_fit, all_of};
-ghost use Rattle.fourier.specs.Adding.{add_row, add_rows, AllFit, AllLong, OneLength};
+ghost use Rattle.sparse_rows.specs.Adding.{add_row, add_rows, AllFit, AllLong, OneLength};
 ghost use Rattle.fourier.specs.Saying.{FitsUnless};
-ghost use Rattle.fourier.specs.Small.{small};
+ghost use Rattle.sparse_rows.specs.Small.{small};
 
-use crate::cleaning::{MOST_ROWS, add};
 use crate::column::Column;
-use crate::line::Line;
-use crate::lines::Lines;
-use crate::sign::{is_negative, is_positive, negated};
 use exact128::{gcd, quotient};
 use linear_rows::RowFault;
+use sparse_rows::{Line, Lines, MOST_ROWS, add, is_negative, is_positive, negated};
 use std::alloc::{AllocError, Global};
 
 /// The kept rows with the combinations of each row that rises in the column and each that falls there.

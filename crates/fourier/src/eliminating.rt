@@ -7,10 +7,10 @@ ghost use Rattle.linear_rows.specs.Rows.{HoldsOn};
 ghost use Rattle.linear_rows.specs.Step.{HasFloor};
 ghost use Rattle.fourier.specs.Saying.{Eliminates};
 
-use crate::converting::{lines_of, rows_of};
 use crate::fault::ElimFault;
 use crate::stepping::step;
 use linear_rows::Rows;
+use sparse_rows::{lines_of, rows_of};
 use std::alloc::Global;
 
 /// Eliminates a variable: the rows left have the width of `rows`, and 0 in the column of `var`.

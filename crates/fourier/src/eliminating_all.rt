@@ -4,12 +4,12 @@ ghost use Rattle.std.specs.Prelude.{◌≡◌, suc, ◌+◌, ◌≤◌, IfOk};
 ghost use Rattle.linear_rows.specs.Plain.{plain_rows, HaveWidth};
 ghost use Rattle.linear_rows.specs.Step.{columns};
 ghost use Rattle.fourier.specs.Saying.{EliminatesAll};
-ghost use Rattle.fourier.specs.Adding.{AllFit};
+ghost use Rattle.sparse_rows.specs.Adding.{AllFit};
 
-use crate::converting::{lines_of, rows_of};
 use crate::fault::ElimFault;
 use crate::stepping::step;
 use linear_rows::Rows;
+use sparse_rows::{lines_of, rows_of};
 use std::alloc::Global;
 
 /// Eliminates the given number of variables from this one on, in order: the rows left have the width of `rows`.

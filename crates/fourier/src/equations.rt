@@ -5,14 +5,13 @@ ghost use Rattle.exact128.specs.Fits.{Fits};
 ghost use Rattle.exact128.specs.Sums.{entry};
 ghost use Rattle.linear_rows.specs.Equation.{equation_from, solved_rows};
 ghost use Rattle.linear_rows.specs.Blown.{solved_rows_fit};
-ghost use Rattle.fourier.specs.Adding.{add_rows, add_solved, add_solved_fits, AllFit, OneLength};
+ghost use Rattle.sparse_rows.specs.Adding.{add_rows, AllFit, OneLength};
+ghost use Rattle.fourier.specs.SolvedRows.{add_solved, add_solved_fits};
 
 use crate::column::Column;
 use crate::crossing::cross_add;
-use crate::line::Line;
-use crate::lines::Lines;
-use crate::sign::{is_negative, is_positive};
 use linear_rows::RowFault;
+use sparse_rows::{Line, Lines, is_negative, is_positive};
 use std::alloc::Global;
 
 /// The places of the first row that rises in column `k` and has its negation among the rows, and of that.

@@ -2,7 +2,7 @@
 
 ghost use Rattle.std.specs.Prelude.{◌≡◌, length, ◌<◌, slice_index_or, [], ◌∷◌, ◌++◌, OnOk};
 
-use crate::lines::Lines;
+use sparse_rows::Lines;
 use std::alloc::{AllocError, Global};
 use std::marker::Model;
 

@@ -1,30 +1,22 @@
 //! Elimination of a variable from linear rows, and solving of rows over naturals.
 //!
 //! Both calls compute what linear_rows defines, in numbers of at most 127 bits, or say at which step a number was too
-//! large or rows were too many. The crate depends on `exact128`, `rational128` and `linear_rows`.
+//! large or rows were too many. The crate depends on `exact128`, `rational128`, `linear_rows` and `sparse_rows`.
 //!
 //! Source: Fourier-Motzkin elimination, as in Schrijver 1986.
 #![tactic(auto)]
 
 mod bounding;
 mod checking;
-mod cleaning;
 mod column;
-mod comparing;
-mod converting;
 mod crossing;
 mod eliminating;
 mod eliminating_all;
 mod equations;
 mod fault;
 mod history;
-mod line;
-mod lines;
-mod marks;
-mod part;
 mod scaling;
 mod sequence;
-mod sign;
 mod solved;
 mod solving;
 mod starting;

@@ -2,13 +2,13 @@
 
 ghost use Rattle.std.specs.Prelude.{◌≡◌, ◌<◌, ◌≤◌, ◌^◌};
 ghost use Rattle.linear_rows.specs.Step.{columns};
-ghost use Rattle.fourier.specs.Adding.{OneLength};
+ghost use Rattle.sparse_rows.specs.Adding.{OneLength};
 ghost use Rattle.fourier.specs.History.{StepsSay};
 
 use crate::fault::ElimFault;
 use crate::history::History;
-use crate::lines::Lines;
 use crate::stepping::step;
+use sparse_rows::Lines;
 use std::alloc::Global;
 
 /// The rows before each step, and those that the last one leaves.

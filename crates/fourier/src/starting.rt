@@ -4,9 +4,8 @@ ghost use Rattle.std.specs.Prelude.{◌≡◌, pos, ◌∷◌, ◌++◌, ◌+◌
 ghost use Rattle.linear_rows.specs.Plain.{plain_row, plain_rows};
 ghost use Rattle.linear_rows.specs.Solving.{units, floors, carried, start_rows};
 
-use crate::line::Line;
-use crate::lines::Lines;
 use linear_rows::{Row, Rows};
+use sparse_rows::{Line, Lines};
 use std::alloc::{AllocError, Global};
 
 /// The rows that are solved for given rows.

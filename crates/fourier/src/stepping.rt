@@ -3,16 +3,15 @@
 ghost use Rattle.std.specs.Prelude.{◌≡◌, true, false, ◌<◌, ◌≤◌, ◌+◌, ◌^◌, [], length, IfOk, OnOk};
 ghost use Rattle.linear_rows.specs.Equation.{equation_from, combinations_by};
 ghost use Rattle.linear_rows.specs.Blown.{step_fits};
-ghost use Rattle.fourier.specs.Adding.{add_rows, AllFit, OneLength};
+ghost use Rattle.sparse_rows.specs.Adding.{add_rows, AllFit, OneLength};
 ghost use Rattle.fourier.specs.Saying.{FitsUnless, StepSays};
 
-use crate::cleaning::{MOST_ROWS, add_without};
 use crate::column::Column;
 use crate::crossing::cross_rising;
 use crate::equations::{cross_equation, equation};
 use crate::fault::StepFault;
-use crate::lines::Lines;
 use linear_rows::RowFault;
+use sparse_rows::{Lines, MOST_ROWS, add_without};
 use std::alloc::{AllocError, Global};
 
 // Where this many rows rise in a column, and as many fall, a step may leave hundreds.

@@ -3,7 +3,7 @@
 ghost use Rattle.std.specs.Prelude.{◌≡◌, ◌+◌, ◌<◌, ◌≤◌, ◌^◌, All, length, map, IfOk, None, Some};
 ghost use Rattle.rational128.specs.Formulas.{fraction_of};
 ghost use Rattle.linear_rows.specs.Step.{columns};
-ghost use Rattle.fourier.specs.Adding.{AllFit};
+ghost use Rattle.sparse_rows.specs.Adding.{AllFit};
 ghost use Rattle.fourier.specs.History.{values_back, AllLongerThan};
 
 use crate::bounding::greatest;

@@ -6,7 +6,7 @@ use Rattle.exact128.proofs.FitsLemmas.{to_fits}
 use Rattle.linear_rows.specs.Blown.{all_of}
 use Rattle.linear_rows.specs.Plain.{plain_row, plain_rows, HaveWidth}
 use Rattle.linear_rows.specs.declared.row.Row.{Row}
-use Rattle.fourier.specs.Adding.{AllFit}
+use Rattle.sparse_rows.specs.Adding.{AllFit}
 use Rattle.termination_model.specs.chains.ChainRows.{AreSpoken}
 
 length_taken : (n : ℕ) (xs : List ℤ) → n ≤ length xs → length (take n xs) ≡ n

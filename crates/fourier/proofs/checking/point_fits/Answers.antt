@@ -6,7 +6,7 @@ use Rattle.std.proofs.lemmas.Int.{to_z-of_z}
 use Rattle.std.proofs.lemmas.List.{get_or-map, length-map}
 use Rattle.linear_rows.specs.Plain.{plain_row, plain_rows}
 use Rattle.linear_rows.specs.Solving.{sums_fit, point_fits}
-use Rattle.fourier.proofs.Alls.{all_from, all_not}
+use Rattle.sparse_rows.proofs.Alls.{all_from, all_not}
 use Rattle.fourier.proofs.checking.point_fits.Goals as goal
 
 pub returns-then-not-value_fits : goal.returns-then-not-value_fits

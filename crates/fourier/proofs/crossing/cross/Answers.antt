@@ -4,7 +4,7 @@ use Rattle.std.specs.Prelude.{FitsSigned, IfOk, neg_ℤ}
 use Rattle.std.proofs.lemmas.Int.{to_z-of_z}
 use Rattle.linear_rows.specs.Elimination.{crossed}
 use Rattle.linear_rows.specs.Blown.{blend_fits, crossed_fits}
-use Rattle.fourier.proofs.Adds.{factors}
+use Rattle.fourier.proofs.Factors.{factors}
 use Rattle.fourier.proofs.crossing.cross.Goals as goal
 
 if_ok : {A E : Type 0} (r : Result A E) (P Q : A → Type 0) → ((a : A) → P a → Q a) → IfOk r P → IfOk r Q

@@ -3,8 +3,8 @@ use Rattle.std.proofs.lemmas.List.{length-map}
 use Rattle.exact128.specs.Sums.{entry}
 use Rattle.linear_rows.specs.Elimination.{is_negative, crossed, falling}
 use Rattle.linear_rows.specs.Blown.{crossed_fits}
-use Rattle.fourier.specs.Adding.{add_row}
-use Rattle.fourier.proofs.MarkLemmas.{got-map}
+use Rattle.sparse_rows.specs.Adding.{add_row}
+use Rattle.sparse_rows.proofs.MarkLemmas.{got-map}
 use Rattle.fourier.proofs.Loops.{done_none, done_yes, done_no, done_all, not_all, fold-map}
 use Rattle.fourier.proofs.crossing.cross_falling.Goals as goal
 use Rattle.fourier.proofs.crossing.cross_falling.Goals.{then-falls-j+in-Ok, else-falls-j}

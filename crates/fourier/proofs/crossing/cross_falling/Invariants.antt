@@ -1,7 +1,7 @@
 use Rattle.std.proofs.Common.{take}
 use Rattle.linear_rows.specs.Elimination.{crossed, falling}
 use Rattle.linear_rows.specs.Blown.{crossed_fits}
-use Rattle.fourier.specs.Adding.{add_row}
+use Rattle.sparse_rows.specs.Adding.{add_row}
 use Rattle.fourier.proofs.Loops.{Done}
 use Rattle.fourier.proofs.crossing.cross_falling.Given as goal
 

@@ -5,7 +5,7 @@ use Rattle.std.proofs.lemmas.Int.{to_z-of_z}
 use Rattle.exact128.specs.Sums.{entry}
 use Rattle.linear_rows.specs.Elimination.{is_positive, crossed, falling, crossings, rising}
 use Rattle.linear_rows.specs.Blown.{crossed_fits, crossings_fit, all_of}
-use Rattle.fourier.specs.Adding.{add_row, AllLong}
+use Rattle.sparse_rows.specs.Adding.{add_row, AllLong}
 use Rattle.linear_rows.proofs.Steps.{positive_is}
 use Rattle.std.specs.Prelude.{nat_lt}
 use Rattle.std.proofs.lemmas.Bool.{ltb-true}

@@ -1,7 +1,7 @@
 use Rattle.std.proofs.Common.{take, map}
 use Rattle.linear_rows.specs.Elimination.{crossed, rising, falling}
 use Rattle.linear_rows.specs.Blown.{crossed_fits, all_of}
-use Rattle.fourier.specs.Adding.{add_rows}
+use Rattle.sparse_rows.specs.Adding.{add_rows}
 use Rattle.fourier.proofs.Loops.{Done}
 use Rattle.fourier.proofs.crossing.cross_rising.Given as goal
 

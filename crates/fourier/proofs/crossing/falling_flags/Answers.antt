@@ -4,7 +4,7 @@ use Rattle.std.specs.Prelude.{FitsSigned}
 use Rattle.std.proofs.lemmas.Int.{to_z-of_z}
 use Rattle.exact128.specs.Sums.{entry}
 use Rattle.linear_rows.specs.Elimination.{is_negative}
-use Rattle.fourier.proofs.Alls.{mapped_more}
+use Rattle.sparse_rows.proofs.Alls.{mapped_more}
 use Rattle.fourier.proofs.crossing.falling_flags.Goals as goal
 
 pub loop-i-preserved : goal.loop-i-preserved

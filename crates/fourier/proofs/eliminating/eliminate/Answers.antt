@@ -2,7 +2,7 @@ use Rattle.std.proofs.Common.{◌≡◌, ◌+◌, ◌∷◌, [], true, false, Er
 use Rattle.linear_rows.specs.Plain.{plain_rows}
 use Rattle.linear_rows.specs.Step.{eliminated}
 use Rattle.linear_rows.specs.Blown.{numbers_fit, step_fault}
-use Rattle.fourier.specs.Adding.{AllLong}
+use Rattle.sparse_rows.specs.Adding.{AllLong}
 use Rattle.fourier.specs.Saying.{Eliminates, fault_at}
 use Rattle.fourier.specs.declared.fault.ElimFault.{ElimFault}
 use Rattle.fourier.proofs.Sequences.{fault_said}

@@ -2,7 +2,7 @@ use Rattle.std.proofs.Common.{◌≡◌, ℤ, List, ◌+◌, ◌<◌, ◌≤◌,
 use Rattle.linear_rows.specs.Plain.{plain_rows}
 use Rattle.linear_rows.specs.Blown.{numbers_fit}
 use Rattle.linear_rows.specs.Step.{columns}
-use Rattle.fourier.specs.Adding.{AllFit}
+use Rattle.sparse_rows.specs.Adding.{AllFit}
 use Rattle.fourier.specs.Saying.{EliminatesAll}
 use Rattle.fourier.specs.declared.fault.ElimFault.{ElimFault}
 use Rattle.fourier.proofs.EliminateLemmas.{long_of}

@@ -1,6 +1,6 @@
 use Rattle.std.proofs.Common.{◌≡◌, ◌<◌, length, true, false, arith, ◌∙◌, get_or, [], not, nat_eq, ◌||◌}
-use Rattle.fourier.specs.Adding.{add_solved, add_solved_fits}
-use Rattle.fourier.proofs.Loops.{take_all}
+use Rattle.fourier.specs.SolvedRows.{add_solved, add_solved_fits}
+use Rattle.sparse_rows.proofs.Added.{take_all}
 use Rattle.fourier.proofs.Solveds.{solved_kept, solved_fit, place_yes, place_no, place_wide}
 use Rattle.fourier.proofs.equations.cross_equation.Goals as goal
 use Rattle.fourier.proofs.equations.cross_equation.Goals.{then-elsewhere+in-Ok, else-elsewhere}

@@ -1,6 +1,6 @@
 use Rattle.std.proofs.Common.{take, get_or, []}
 use Rattle.linear_rows.specs.Equation.{other_places}
-use Rattle.fourier.specs.Adding.{add_solved, add_solved_fits}
+use Rattle.fourier.specs.SolvedRows.{add_solved, add_solved_fits}
 use Rattle.fourier.proofs.Loops.{Done}
 use Rattle.fourier.proofs.equations.cross_equation.Given as goal
 

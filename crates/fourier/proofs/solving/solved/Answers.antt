@@ -4,7 +4,7 @@ use Rattle.linear_rows.specs.Proves.{Refutes}
 use Rattle.linear_rows.specs.Step.{columns}
 use Rattle.linear_rows.specs.Solving.{start_rows, refutes_in, solution}
 use Rattle.linear_rows.specs.Solving.Solution.{Blown, Refuted}
-use Rattle.fourier.specs.Adding.{AllLong}
+use Rattle.sparse_rows.specs.Adding.{AllLong}
 use Rattle.fourier.specs.History.{StepsSay}
 use Rattle.fourier.specs.Solves.{Spells}
 use Rattle.fourier.proofs.EliminateLemmas.{long_of}

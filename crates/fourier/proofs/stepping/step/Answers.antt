@@ -1,6 +1,6 @@
 use Rattle.std.proofs.Common.{arith, ap, ◌∙◌, Err}
 use Rattle.linear_rows.specs.Elimination.{without}
-use Rattle.fourier.specs.Adding.{add_rows}
+use Rattle.sparse_rows.specs.Adding.{add_rows}
 use Rattle.fourier.proofs.StepLemmas.{stepped, step_wide, said_many, said_few}
 use Rattle.fourier.proofs.stepping.step.Goals as goal
 

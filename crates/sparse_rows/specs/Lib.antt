@@ -1,0 +1,5 @@
+pub mod Blending
+pub mod Adding
+pub mod Sparse
+pub mod Marks
+pub mod Small
