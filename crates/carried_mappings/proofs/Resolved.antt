@@ -1,6 +1,6 @@
 -- The mappings of a program after an edit, component by component.
 use Rattle.std.proofs.Common.{◌≡◌, ℕ, suc, ◌+◌, ◌-◌, ◌<◌, ℤ, Bool, true, false, inl, List, [], ◌∷◌, ◌++◌, map, length, slice_get, slice_index_or, Bor, Option, None, Some, Ok, Err, refl, ap, sym, subst, ◌∙◌, arith}
-use Rattle.std.specs.Prelude.{IfOk, IfSome, Result}
+use Rattle.std.specs.Prelude.{IfOk, IfSome, Result, option_map}
 use Rattle.std.specs.List.{AllByRecursion}
 use Rattle.call_components.specs.Partition.{Partition, AreComponents, IsIn}
 use Rattle.cti_terms.specs.Listing.{Listing, IsProgram}
@@ -24,7 +24,7 @@ use Rattle.solved_program.proofs.Pairs.{pair_back}
 use Rattle.solved_program.proofs.Clauses.{own_at, own_component}
 use Rattle.solved_program.proofs.Resolved.{each_more, one_longer}
 use Rattle.carried_mappings.specs.Carrying.{AreClauseNumbers, CarriesOver, IsStanding, new_number}
-use Rattle.carried_mappings.specs.Moved.{moved, moved_found}
+use Rattle.carried_mappings.specs.Moved.{moved, moved_found, moved_refutation}
 use Rattle.carried_mappings.specs.Order.{AreSameMappings, HaveSameMembers, HaveSameOrder}
 use Rattle.carried_mappings.specs.FoundMappings.{AreFound, AreFoundTo, AreKeptFound, AreMappingSources, IsCarriedAt, IsFoundAt, IsKept, IsKeptFrom, nothing, number_in}
 use Rattle.carried_mappings.specs.declared.resolving.MappingSources.{MappingSources}
@@ -99,6 +99,7 @@ nothing_kept s are prog new_prog c not_so b x stands found =
     let none : x ≡ nothing = are.others b x found (before ∙ ap Some alike) in
     subst (λ (y : Found). IsKeptFrom e b c y nothing) (sym none) (record {
       mappings = record { there = λ y i. absurd i; before = λ y i. absurd i };
+      refutation = refl;
       moved = λ order. refl;
     })
 
@@ -157,17 +158,19 @@ module _ (s : MappingSources) (are : AreMappingSources s) (b c : ℕ) (inner_bef
 
     pub carry_kept : {E : Type 0} (y : Found) → slice_get s.found.now b ≡ Some y → (r : Result Found E)
         → (HaveSameOrder e b c → IfOk r (λ z. z ≡ moved_found (new_number (standing_at s b c own_before own)) (members_in new_comps c) y))
-        → IfOk r (λ z. AreSameMappings e b y.mappings z.mappings) → IfOk r (IsKept s c)
-    carry_kept y at_y (Ok z) moves same = λ d x other found.
+        → IfOk r (λ z. AreSameMappings e b y.mappings z.mappings)
+        → IfOk r (λ z. z.refutation ≡ option_map (moved_refutation (new_number (standing_at s b c own_before own))) y.refutation) → IfOk r (IsKept s c)
+    carry_kept y at_y (Ok z) moves same refuted = λ d x other found.
         let one_only = one d other in
         let here : slice_get s.found.now b ≡ Some x = ap (slice_get s.found.now) (sym one_only) ∙ found in
         let equal : y ≡ x = cc in
         let kept : IsKeptFrom e b c y z = record {
           mappings = same;
+          refutation = refuted ∙ ap (λ (g : ℕ → ℕ). option_map (moved_refutation g) y.refutation) (sym numbers_same);
           moved = λ order. moves order ∙ ap (λ (g : ℕ → ℕ). moved_found g (members_in new_comps c) y) (sym numbers_same);
         } in
         subst (λ (n : ℕ). IsKeptFrom e n c x z) (sym one_only) (subst (λ (w : Found). IsKeptFrom e b c w z) equal kept)
-    carry_kept y at_y (Err f) moves same = tt
+    carry_kept y at_y (Err f) moves same refuted = tt
 
     pub members_same : HaveSameMembers e b c
     members_same =

@@ -2,7 +2,7 @@
 -- What is found of the mappings of a program's components.
 --
 -- To believe: `AreFound`, `KeepFound`.
-use Rattle.std.specs.Prelude.{◌≡◌, ℕ, ℤ, false, true, List, [], length, map, slice_get, None, Some}
+use Rattle.std.specs.Prelude.{◌≡◌, ℕ, ℤ, false, true, List, [], length, map, option_map, slice_get, None, Some}
 use Rattle.std.specs.List.{AllByRecursion}
 use Rattle.call_components.specs.Partition.{Partition}
 use Rattle.cti_terms.specs.Listing.{Listing}
@@ -19,7 +19,7 @@ use Rattle.solved_program.specs.Marks.{AreMarkedTo}
 use Rattle.solved_program.specs.Resolving.{AreSources}
 use Rattle.solved_program.specs.Standing.{KeepValues, StandsFor}
 use Rattle.solved_program.specs.declared.edit.Edit.{Edit}
-use Rattle.carried_mappings.specs.Moved.{moved, moved_found}
+use Rattle.carried_mappings.specs.Moved.{moved, moved_found, moved_refutation}
 use Rattle.carried_mappings.specs.Order.{AreSameMappings, HaveSameOrder}
 use Rattle.carried_mappings.specs.declared.resolving.MappingSources.{MappingSources}
 
@@ -80,9 +80,11 @@ number_in e b c = moved (clause_numbers e.before.now e.components_before.now b) 
 abbrev pub carried_over : Edit → ℕ → ℕ → Found → Found
 carried_over e b c x = moved_found (number_in e b c) (members_in e.components.now c) x
 
--- This is what was found of the component b: the same mappings, and with the members in the same order all the same.
+-- This is what was found of the component b: the same mappings, and the same refutation under the clauses' new numbers;
+-- with the members in the same order it is all the same.
 pub record IsKeptFrom (e : Edit) (b c : ℕ) (x f : Found) : Type 0 where
   pub mappings : AreSameMappings e b x.mappings f.mappings
+  pub refutation : f.refutation ≡ option_map (moved_refutation (number_in e b c)) x.refutation
   pub moved : HaveSameOrder e b c → f ≡ carried_over e b c x
 
 -- Where the component c stands for an old one, this is what was found of that one.

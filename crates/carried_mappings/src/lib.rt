@@ -1,8 +1,8 @@
 //! What is found of a component's mappings, carried over an edit of the program.
 //!
 //! After an edit a component that stands for an old one needs no new search for its mappings: they are the old ones
-//! under the new numbers of predicates and clauses, and with the members in the same order all else that was found stays,
-//! too: falls, the refutation and the supports given up. No term is looked at, and no system is solved.
+//! under the new numbers of predicates and clauses, and all else that was found stays, too: falls, the refutation and
+//! the supports given up. No term is looked at, and no system is solved.
 //!
 //! Where the members stand in the same order in both programs, the numbers of argument positions are the same, and so
 //! are supports. An edit can change their order, since predicates are numbered as they first occur. Then the parts of a
@@ -24,4 +24,3 @@ mod sets;
 mod standing;
 
 pub use resolving::resolve_mappings;
-pub use standing::Standing;

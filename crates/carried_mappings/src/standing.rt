@@ -1,9 +1,9 @@
 //! Components that stand for old ones.
 
-ghost use Rattle.std.specs.Prelude.{◌≡◌, IfOk};
+ghost use Rattle.std.specs.Prelude.{◌≡◌, IfOk, option_map};
 ghost use Rattle.termination_model.specs.mappings.ComponentViews.{members_in};
 ghost use Rattle.carried_mappings.specs.Carrying.{CanBeCarried, CarriesOver, new_number};
-ghost use Rattle.carried_mappings.specs.Moved.{moved_found};
+ghost use Rattle.carried_mappings.specs.Moved.{moved_found, moved_refutation};
 ghost use Rattle.carried_mappings.specs.Order.{AreSameMappings, HaveSameOrder};
 
 use crate::order::have_same_names;
@@ -34,6 +34,8 @@ impl Standing<'_> {
         ensures carried { IfOk result (CarriesOver self.now found.now) }
         ensures mappings { IfOk result (λ x. AreSameMappings
             self.now.edit.now self.now.before found.now.mappings x.mappings) }
+        ensures refutation { IfOk result (λ x. x.refutation
+            ≡ option_map (moved_refutation (new_number self.now)) found.now.refutation) }
     {
         // What every program keeps.
         let edit = self.edit;
@@ -66,13 +68,16 @@ impl Standing<'_> {
         requires { CanBeCarried self.now found.now }
 
         // By each norm it is what is found of the component, where the component stands for the old one. With the
-        // members in the same order it is the same under the new numbers. In any order it is the same mappings.
+        // members in the same order it is the same under the new numbers. In any order it has the same mappings and the
+        // same refutation.
         ensures carried { IfOk result (CarriesOver self.now found.now) }
         ensures moved { HaveSameOrder self.now.edit.now self.now.before self.now.after
             → IfOk result (λ x. x ≡ moved_found (new_number self.now)
             (members_in self.now.edit.now.components.now self.now.after) found.now) }
         ensures mappings { IfOk result (λ x. AreSameMappings
             self.now.edit.now self.now.before found.now.mappings x.mappings) }
+        ensures refutation { IfOk result (λ x. x.refutation
+            ≡ option_map (moved_refutation (new_number self.now)) found.now.refutation) }
     {
         // What every program keeps.
         let _old = self.edit.before.preds();

@@ -1,10 +1,12 @@
 -- A text of edits tells one thing or is refused, for one fault.
 use Rattle.std.proofs.Common.{◌≡◌, ℕ, ◌≤◌, List, [], length, Ok, Err, ◌⊎◌, inl, inr, refl, sym, ap, ◌∙◌}
 use Rattle.edit_texts.specs.Edits.{Outcome, Refusal, Told, outcome}
+use Rattle.edit_texts.proofs.PlacedEdits.{outcome_placed}
 use Rattle.prolog_terms.specs.Clauses.{Clause}
 use Rattle.prolog_reader.specs.Naming.{AreNamesOf, text_own}
 use Rattle.prolog_reader.specs.Reading.{Answer, Fault, IsTextAnswer, too_long, by_clauses}
 use Rattle.prolog_reader.specs.Table.{Table}
+use Rattle.prolog_reader.proofs.PlaceLemmas.{text_placed}
 use Rattle.prolog_reader.proofs.SomeAnswer.{text_answered}
 use Rattle.prolog_reader.proofs.TextNames.{names_of}
 use Rattle.cti_top.specs.Programs.{ReadsAs}
@@ -69,3 +71,9 @@ module _ (bytes : List ℕ) where
       of_answer : {names : List (List ℕ)} {cs : List Clause} {t : Table} → IsTextAnswer names bytes (Ok (cs, t)) → length bytes ≤ 1048576
       of_answer (too_long h e) = absurd (apart _ _ e)
       of_answer (by_clauses ts f short lexes answers) = short
+
+  -- a refusal's place is one of the text
+  pub session_refused_placed : (kind at : ℕ) → IsRefusedSession bytes kind at → at ≤ length bytes
+  session_refused_placed kind at (not_read names k named h is) = text_placed names bytes (Err (k, at)) h
+  session_refused_placed kind at (not_done read cs t k r h is) =
+      outcome_placed (length bytes) (session_names read) [] cs (k, at) (text_placed read bytes (Ok (cs, t)) r.reads) h

@@ -106,4 +106,6 @@ pub fn refusals_stand_in_their_texts()
     ensures text { (bytes : List ℕ) (kind at : ℕ) → IsRefused bytes kind at → at ≤ length bytes }
     ensures query { (known : Known) (query : List ℕ) (kind at : ℕ)
         → IsQueryRefused known query kind at → at ≤ length query }
+    ensures edits { (bytes : List ℕ) (kind at : ℕ) → IsRefusedSession bytes kind at
+        → at ≤ length bytes }
 {}

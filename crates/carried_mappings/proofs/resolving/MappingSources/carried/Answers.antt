@@ -47,4 +47,4 @@ returns-clause-kept c =
     let at : slice_get s.sources.own.now c.args.c ≡ Some c.as_slice-own.result.now =
     there s.sources.own.now c.args.c c.index-self-c.result (omega (arith, c.requires.sources.sources.own.each, c.requires.inner)) ∙ ap Some (sym c.as_slice-own.ensures) in
     carry_kept s c.requires.sources b c.args.c c.requires.before c.requires.inner c.requires.stands c.as_slice-own_before.result c.as_slice-own.result at_before at
-    c.preds-old.ensures.sound c.preds-new.ensures.sound x found c.carry.result c.carry.ensures.moved c.carry.ensures.mappings
+    c.preds-old.ensures.sound c.preds-new.ensures.sound x found c.carry.result c.carry.ensures.moved c.carry.ensures.mappings c.carry.ensures.refutation

@@ -1,5 +1,6 @@
 use Rattle.std.proofs.Common.{◌∙◌, length, ap, sym, subst}
 use Rattle.call_components.specs.Numbers.{number_of}
+use Rattle.level_systems.specs.declared.found.Found.{Found}
 use Rattle.carried_mappings.specs.Carrying.{CarriesOver, new_number}
 use Rattle.carried_mappings.specs.Moved.{moved_found}
 use Rattle.carried_mappings.specs.Order.{AreSameMappings, HaveSameOrder, named_by}
@@ -77,3 +78,6 @@ returns-clause-mappings c =
     let found = same_in_order s c.requires.standing c.preds-old.ensures.sound c.preds-new.ensures.sound c.requires.members order x c.requires.parts in
     if_ok_to _ (λ z. AreSameMappings e s.before x.mappings z.mappings)
     (λ z is. subst (λ w. AreSameMappings e s.before x.mappings w.mappings) (ap (λ qs. moved_found (new_number s) qs x) new ∙ sym is) found) c.moved_found.result c.moved_found.ensures
+
+pub returns-clause-refutation : goal.returns-clause-refutation
+returns-clause-refutation c = if_ok_to _ _ (λ z is. ap (λ (f : Found). f.refutation) is) c.moved_found.result c.moved_found.ensures

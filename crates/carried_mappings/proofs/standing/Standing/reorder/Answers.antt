@@ -1,6 +1,7 @@
 use Rattle.std.proofs.Common.{◌≡◌, ◌+◌, ◌<◌, ◌^◌, ◌∙◌, length, map, ap, sym, subst, List, ℕ}
 use Rattle.call_components.specs.Numbers.{number_of}
 use Rattle.level_systems.specs.Held.{spelled}
+use Rattle.level_systems.specs.declared.found.Found.{Found}
 use Rattle.carried_mappings.specs.Carrying.{CarriesOver}
 use Rattle.carried_mappings.specs.Order.{AreSameMappings}
 use Rattle.carried_mappings.specs.Reordered.{AreOldNumbers, ArePlaces}
@@ -109,3 +110,6 @@ returns-clause-mappings c =
     (subst (AreOldNumbers e.before.now e.after.now (map spelled c.as_slice-stood.result.now) (map spelled c.as_slice.result.now)) (sym c.as_slice-3.ensures.value) c.in_ok-numbers.ensures.numbers) x
     c.requires.members c.requires.parts in
     if_ok_to _ (λ z. AreSameMappings e s.before x.mappings z.mappings) (λ z is. subst (λ w. AreSameMappings e s.before x.mappings w.mappings) (sym is) same) c.found.result c.found.ensures
+
+pub returns-clause-refutation : goal.returns-clause-refutation
+returns-clause-refutation c = if_ok_to _ _ (λ z is. ap (λ (f : Found). f.refutation) is) c.found.result c.found.ensures
