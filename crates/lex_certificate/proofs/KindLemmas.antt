@@ -2,7 +2,6 @@
 use Rattle.std.proofs.Common.{◌≡◌, ℕ, ◌⊎◌, inl, inr, List, Some, None, refl}
 use Rattle.std.specs.Prelude.{ℤ}
 use Rattle.call_components.specs.Partition.{Partition}
-use Rattle.certificate.specs.declared.cell.CertCell.{CertCell}
 use Rattle.certificate.specs.declared.pred_text.PredText.{PredText}
 use Rattle.cti_terms.specs.Listing.{Listing}
 use Rattle.lex_certificate.specs.declared.fact.LexFact.{LexFact}

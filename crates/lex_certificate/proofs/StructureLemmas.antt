@@ -1,5 +1,5 @@
 -- Reading the sections of a certificate: what is read is listed so, and what is listed so is read.
-use Rattle.std.proofs.Common.{◌≡◌, ◌≢◌, ℕ, suc, ◌<◌, ◌≤◌, ◌⊎◌, inl, inr, List, [], ◌∷◌, ◌++◌, length, Option, Some, None, Ok, refl, ap, sym, subst, arith, ne_eqb}
+use Rattle.std.proofs.Common.{◌≡◌, ◌≢◌, ℕ, ◌<◌, ◌≤◌, ◌⊎◌, inl, inr, List, [], ◌∷◌, ◌++◌, length, Option, Some, None, Ok, refl, arith}
 use Rattle.std.proofs.lemmas.Bool.{false≢true}
 use Rattle.std.specs.Prelude.{IsTrue}
 use Rattle.std.specs.List.{AllByRecursion}
@@ -7,20 +7,19 @@ use Rattle.bool_diagrams.specs.declared.cube.Cell.{Cell}
 use Rattle.call_components.specs.Partition.{Partition}
 use Rattle.cert_structure.specs.Order.{pred_text}
 use Rattle.cert_structure.specs.Shape.{arity_in, head_of, body_of, rows_of, rows_of_atoms, items_of, IsMode, IsSizeRow, HaveMultipliers, HasWidth}
-use Rattle.cert_structure.proofs.ContentLemmas.{same_itself, arity_text, not_same}
+use Rattle.cert_structure.proofs.ContentLemmas.{not_same}
 use Rattle.certificate.specs.declared.pred_text.PredText.{PredText}
 use Rattle.cti_terms.specs.Listing.{Listing}
 use Rattle.fact_reading.specs.Numbered.{facts_from, lines_from, AreEach}
-use Rattle.fact_reading.specs.Walk.{read_many, read_each}
-use Rattle.fact_reading.proofs.SectionLemmas.{mapped, all_from, all_weaker, next_sound, next_back, counted_sound, counted_back, many_sound, many_back, each_sound, each_back}
+use Rattle.fact_reading.specs.Walk.{read_each}
+use Rattle.fact_reading.proofs.SectionLemmas.{all_from, all_weaker, each_sound, each_back}
 use Rattle.linear_rows.specs.declared.multipliers.Multipliers.{Multipliers}
-use Rattle.linear_rows.specs.declared.row.Row.{Row}
 use Rattle.linear_rows.specs.declared.row.Rows.{Rows}
 use Rattle.number_tests.specs.declared.level_part.LevelPart.{LevelPart}
 use Rattle.number_tests.specs.declared.refutation.Refutation.{Refutation}
 use Rattle.lex_certificate.specs.declared.fact.LexFact.{LexFact}
 use Rattle.lex_certificate.specs.declared.fact.LexFact.TheVariants as lex
-use Rattle.lex_certificate.specs.Order.{size_line, by_line, grounds_line, level_line, drops_line, pre_line, point_line, stuck_lines, mode_facts, size_facts, proof_facts, ground_facts, level_facts, drop_facts, pre_facts, stuck_facts, is_note}
+use Rattle.lex_certificate.specs.Order.{by_line, grounds_line, level_line, drops_line, pre_line, point_line, stuck_lines, mode_facts, size_facts, proof_facts, ground_facts, level_facts, drop_facts, pre_facts, stuck_facts, is_note}
 use Rattle.lex_certificate.specs.Shape.{IsStuckSet}
 use Rattle.lex_certificate.specs.Structure.{AreNotes}
 use Rattle.lex_certificate.specs.Walk.{shared, take_level, take_drop, read_modes, read_rows, read_proofs, read_grounds, read_drops, read_pre, read_stuck}
@@ -28,7 +27,7 @@ use Rattle.cert_structure.specs.Walk.{shared_row, shared_ground, shared_pre, sha
 use Rattle.lex_certificate.proofs.DropLemmas.{NoDrop, IsCall, calls_sound, calls_back, clause_apart}
 use Rattle.lex_certificate.proofs.KindLemmas.{kind, fact_line, is_line, seen, split_level, split_drop, IsLevelFact, IsDrops}
 use Rattle.cert_structure.proofs.SharedLemmas as laws
-use Rattle.lex_certificate.proofs.ListLemmas.{NoLevel, free}
+use Rattle.lex_certificate.proofs.ListLemmas.{NoLevel}
 use Rattle.lex_certificate.proofs.StuckLemmas.{stuck_sound, stuck_given}
 
 -- Facts of later kinds.

@@ -1,13 +1,12 @@
 -- Each reader of one fact takes the line of what it gives, and gives what a line shows.
-use Rattle.std.proofs.Common.{◌≡◌, ℕ, suc, ◌≤◌, ◌⊎◌, inl, inr, ◌&&◌, ◌==◌, nat_le, Some, None, refl, sym, ◌∙◌, eqb-true, eq-eqb, le-leb, leb-true}
+use Rattle.std.proofs.Common.{◌≡◌, ℕ, suc, ◌≤◌, ◌⊎◌, inl, inr, ◌&&◌, ◌==◌, Some, None, refl, sym, ◌∙◌, eqb-true, eq-eqb}
 use Rattle.std.proofs.lemmas.Bool.{and_parts}
 use Rattle.std.proofs.lemmas.Bool.Decides.{Decides-int_eq}
 use Rattle.std.specs.Prelude.{pos}
 use Rattle.std.specs.Ordering.{int_eq}
-use Rattle.std.specs.List.{AllByRecursion, list_all}
-use Rattle.cert_structure.specs.Shape.{IsMode, IsSizeRow, HaveMultipliers, HasWidth, IsLevel}
-use Rattle.cert_structure.specs.Walk.{kept, same_pred, is_mode, row_read, multipliers_read, cube_read, level_read}
-use Rattle.cert_structure.proofs.ContentLemmas.{other_taken, placed, kept_is, same_is, same_itself, modes_are, modes_back, row_is, row_back, multipliers_are, multipliers_back, cube_is, cube_back, level_is, level_back}
+use Rattle.cert_structure.specs.Shape.{HaveMultipliers, IsLevel}
+use Rattle.cert_structure.specs.Walk.{same_pred, multipliers_read, level_read}
+use Rattle.cert_structure.proofs.ContentLemmas.{other_taken, placed, kept_is, same_is, same_itself, multipliers_are, multipliers_back, level_is, level_back}
 use Rattle.certificate.specs.declared.pred_text.PredText.{PredText}
 use Rattle.fact_reading.proofs.SectionLemmas.{IsTaken, IsBack}
 use Rattle.lex_certificate.specs.declared.fact.LexFact.TheVariants as lex

@@ -6,7 +6,7 @@ use Rattle.std.specs.List.{list_all}
 use Rattle.bool_diagrams.specs.declared.cube.Cell.{Cell}
 use Rattle.call_components.specs.Partition.{Partition}
 use Rattle.cert_structure.specs.Order.{pred_text}
-use Rattle.cert_structure.specs.Shape.{arity_in, head_of, body_of, vars_of, rows_of, rows_of_atoms, items_of, is_recursive, first_of, is_pair}
+use Rattle.cert_structure.specs.Shape.{head_of, body_of, vars_of, rows_of, items_of, is_recursive, first_of, is_pair}
 use Rattle.cert_structure.specs.SharedFacts.{Shared}
 use Rattle.cert_structure.specs.SharedFacts as says
 use Rattle.cert_structure.specs.Walk.{kept, at_place, same_pred, is_before, multipliers_read, level_read, point_read, shared_refuted, modes_by, rows_by, proofs_by, grounds_by, pre_by}
@@ -17,7 +17,6 @@ use Rattle.fact_reading.specs.declared.stop.StructureReason.TheVariants as reaso
 use Rattle.fact_reading.specs.Walk.{◌>>=◌, Read, Taken, result_map, wrong_at, with_first, read_each, read_next, read_many}
 use Rattle.linear_rows.specs.declared.multipliers.Multipliers.{Multipliers}
 use Rattle.linear_rows.specs.declared.point.Point.{Point}
-use Rattle.linear_rows.specs.declared.row.Row.{Row}
 use Rattle.linear_rows.specs.declared.row.Rows.{Rows}
 use Rattle.number_tests.specs.declared.level_part.LevelPart.{LevelPart}
 use Rattle.number_tests.specs.declared.pair_point.PairPoint.{PairPoint}
