@@ -1,10 +1,10 @@
 -- The place of an edit that is refused is one of the text of edits.
-use Rattle.std.proofs.Common.{◌≡◌, ℕ, ℤ, ◌≤◌, Bool, true, false, if◌then◌else◌, List, [], ◌∷◌, length, Option, Some, None, Result, Ok, Err, subst, sym, refl}
+use Rattle.std.proofs.Common.{◌≡◌, ℕ, ℤ, ◌≤◌, Bool, true, false, if◌then◌else◌, List, [], ◌∷◌, length, Option, Some, None, Ok, Err, subst, sym, refl}
 use Rattle.std.specs.Prelude.{nat_le, nat_lt, codes}
 use Rattle.std.specs.List.{AllByRecursion}
 use Rattle.clause_normal.specs.Definite.{Parted, no_clause, fact, rule, named_parts, parted, parts_fault, parted_fault, added_fault, program_of}
 use Rattle.clause_normal.specs.NormalForm.{Fault, first_of, head_fault, is_silent_goal, named_head_fault, variables_fault}
-use Rattle.clause_normal.specs.Query.{query_calls, query_fault, query_form, query_goals, query_of}
+use Rattle.clause_normal.specs.Query.{query_calls, query_fault, query_goals, query_of}
 use Rattle.clause_normal.specs.Numbering.{empty_program}
 use Rattle.clause_variables.specs.Terms.{firsts, occurrences}
 use Rattle.clause_normal.specs.Words.{is_reserved, neck_of, same}
@@ -14,8 +14,8 @@ use Rattle.clause_normal.specs.declared.words.Neck.{Neck}
 use Rattle.clause_normal.specs.declared.words.Neck.TheVariants as neck
 use Rattle.clause_normal.proofs.PlaceLemmas.{query_form_placed}
 use Rattle.cti_terms.specs.declared.limits.TheConstants.{MOST_ARGUMENTS, MOST_VARIABLES}
-use Rattle.prolog_grammar.specs.Placed.{Tree, tree, Shape, Var, Int, Fun, Trees, no_trees, more_trees}
-use Rattle.prolog_grammar.specs.Places.{IsPlaced, IsShapePlaced, ArePlaced}
+use Rattle.prolog_grammar.specs.Placed.{Tree, tree, Var, Int, Fun, Trees, no_trees, more_trees}
+use Rattle.prolog_grammar.specs.Places.{IsPlaced, ArePlaced}
 use Rattle.prolog_reader.specs.Directive.{atom_of, parts_of}
 use Rattle.prolog_reader.specs.Names.{name_text}
 use Rattle.prolog_reader.specs.Places.{ArePlacedClauses}
