@@ -32,15 +32,30 @@ fn copied_pair(alloc: Global, pair: &PairPoint) -> Result<PairPoint, AllocError>
     })
 }
 
-/// A copy of a refutation.
-pub fn copied_refutation(alloc: Global, refutation: &Refutation) -> Result<Refutation, AllocError>
+/// A copy of pairs with their points.
+fn copied_pairs(alloc: Global, pairs: &[PairPoint]) -> Result<Sequence<PairPoint>, AllocError>
+    ensures { IfOk result (λ copy. copy ≡ pairs.now) }
+{
+    let mut copy = Sequence::new(alloc);
+    for pair in pairs {
+        copy.push(copied_pair(alloc, pair)?)?;
+    }
+    Ok(copy)
+}
+
+/// A copy of a refutation or a stuck set, if there is one.
+pub fn copied_refutation(
+    alloc: Global,
+    refutation: &Option<Refutation>,
+) -> Result<Option<Refutation>, AllocError>
     ensures { IfOk result (λ copy. copy ≡ refutation.now) }
 {
-    let mut points = Sequence::new(alloc);
-    for pair in refutation.points.as_slice() {
-        points.push(copied_pair(alloc, pair)?)?;
+    match refutation {
+        Some(refutation) => Ok(Some(Refutation {
+            points: copied_pairs(alloc, refutation.points.as_slice())?,
+        })),
+        None => Ok(None),
     }
-    Ok(Refutation { points })
 }
 
 /// A copy of size rows.

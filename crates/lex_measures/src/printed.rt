@@ -29,16 +29,6 @@ fn zero_lists(alloc: Global, width: u32) -> Result<Sequence<Sequence<LevelPart>>
     Ok(lists)
 }
 
-/// A copy of the stuck set, if there is one.
-fn copied_if(alloc: Global, stuck: &Option<Refutation>) -> Result<Option<Refutation>, AllocError>
-    ensures { IfOk result (λ copy. copy ≡ stuck.now) }
-{
-    match stuck {
-        Some(stuck) => Ok(Some(copied_refutation(alloc, stuck)?)),
-        None => Ok(None),
-    }
-}
-
 /// The components of a program, with what is found of the lists of each.
 #[derive(Clone, Copy)]
 pub(crate) struct Printed<'a> {
@@ -168,7 +158,7 @@ impl Printed<'_> {
             (led_by self.now.comps.now q.0)) }
     {
         match led_by(self.p, self.comps, q) {
-            Some(c) => copied_if(alloc, &self.found[c as usize].refutation),
+            Some(c) => copied_refutation(alloc, &self.found[c as usize].refutation),
             None => Ok(None),
         }
     }

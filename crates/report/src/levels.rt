@@ -72,19 +72,6 @@ fn falls_of(
     Ok(falls)
 }
 
-/// A copy of a refutation, if there is one.
-fn copied_if(
-    alloc: Global,
-    refutation: &Option<Refutation>,
-) -> Result<Option<Refutation>, AllocError>
-    ensures { IfOk result (λ copy. copy ≡ refutation.now) }
-{
-    match refutation {
-        Some(refutation) => Ok(Some(copied_refutation(alloc, refutation)?)),
-        None => Ok(None),
-    }
-}
-
 /// The components of a program, with what is found of the mappings of each.
 #[derive(Clone, Copy)]
 pub(crate) struct Mapped<'a> {
@@ -210,7 +197,7 @@ impl Mapped<'_> {
             (led_by self.now.comps.now q.0)) }
     {
         match led_by(self.p, self.comps, q) {
-            Some(c) => copied_if(alloc, &self.found[c as usize].refutation),
+            Some(c) => copied_refutation(alloc, &self.found[c as usize].refutation),
             None => Ok(None),
         }
     }
