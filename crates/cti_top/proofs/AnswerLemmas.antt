@@ -1,5 +1,6 @@
 -- What is so of each answer, and of what is asked for.
-use Rattle.std.specs.Prelude.{Result, Ok, Err, IfOk, ◌≡◌}
+use Rattle.std.specs.Prelude.{Result, Ok, Err, IfErr, IfOk, ◌≡◌}
+use Rattle.std.specs.Result.{IsErrAnd}
 use Rattle.std.proofs.Common.{ℕ, List, refl, subst, sym}
 use Rattle.std.specs.Prelude.{◌≢◌}
 use Rattle.command_words.specs.Words.{Ask, infer, check, run, gen, lex, loop, session, Origin, origin}
@@ -11,6 +12,11 @@ use Rattle.cti_top.specs.Sessions.{IsRefusedFor}
 pub if_ok : {A E : Type 0} {P Q : A → Type 0} (r : Result A E) → ((a : A) → P a → Q a) → IfOk r P → IfOk r Q
 if_ok (Ok a) f h = f a h
 if_ok (Err e) f h = tt
+
+-- what is so of each fault
+pub if_err : {A E : Type 0} {P Q : E → Type 0} (r : Result A E) → ((e : E) → P e → Q e) → IsErrAnd r P → IfErr r Q
+if_err (Ok a) f h = tt
+if_err (Err e) f h = f e h
 
 -- where the numbers that are asked for are in range, so is that of the program's origin
 origin_ranged : (ask : Ask) → IsAskInRange ask → IsInRange (origin ask)

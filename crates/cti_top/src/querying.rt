@@ -9,7 +9,7 @@ ghost use Rattle.cti_top.specs.Queries.{IsQueryOf};
 ghost use Rattle.cti_top.specs.Known.{known_of, NamesBuiltins};
 ghost use Rattle.cti_top.specs.Faults.{IsQueryFault};
 
-use crate::source::{Source, SourceFault, TOO_LONG, normal_fault, read_fault};
+use crate::source::{Source, SourceFault, TOO_LONG};
 use clause_normal::normal_query;
 use cti_terms::Goal;
 use prolog_reader::{MOST_BYTES, read_query};
@@ -39,15 +39,9 @@ pub fn query_in(alloc: Global, source: &mut Source, query: &[u8]) -> Result<Goal
     if source.names.count() > MOST_KNOWN || source.program.preds() > MOST_KNOWN {
         return Err(SourceFault::Memory);
     }
-    let clause = match read_query(alloc, query, &mut source.names, &source.ops) {
-        Ok(clause) => clause,
-        Err(fault) => return Err(read_fault(fault)),
-    };
+    let clause = read_query(alloc, query, &mut source.names, &source.ops)?;
     let goal = normal_query(alloc, &clause, &mut source.names, &mut source.program);
     // No two names have the same text, so that the texts tell the names apart.
     source.names.count();
-    match goal {
-        Ok(goal) => Ok(goal),
-        Err(fault) => Err(normal_fault(fault)),
-    }
+    Ok(goal?)
 }

@@ -2,12 +2,12 @@
 
 ghost use Rattle.std.specs.Prelude.{◌≡◌, ◌≤◌, length, IfOk, IfErr};
 ghost use Rattle.cti_top.specs.Answers.{AnswersSession};
-ghost use Rattle.cti_top.specs.Faults.{IsSessionFault, edits_fault};
+ghost use Rattle.cti_top.specs.Faults.{IsSessionFault};
 ghost use Rattle.cti_top.specs.Sessions.{IsSessionOf, edit_number};
 
 use crate::answer::{Answer, refused};
 use crate::refusal::Subject;
-use crate::source::{SourceFault, normal_number, read_fault};
+use crate::source::{SourceFault, normal_number};
 use crate::status::Status;
 use cti_terms::Names;
 use edit_texts::{EditKind, EditsFault, play};
@@ -27,16 +27,20 @@ fn edit_number(kind: EditKind) -> u32
     }
 }
 
-/// A fault of edits as one of the text.
-fn edits_fault(fault: EditsFault) -> SourceFault
-    ensures { result ≡ edits_fault fault }
-{
-    match fault {
-        EditsFault::Refused { kind, at } => SourceFault::Refused {
-            kind: edit_number(kind),
-            at,
-        },
-        EditsFault::Memory => SourceFault::Memory,
+impl From<EditsFault> for SourceFault {
+    ghost use Rattle.std.specs.Prelude.{◌≡◌};
+    ghost use Rattle.cti_top.specs.Faults.{edits_fault};
+
+    ghost from_gives = { λ fault e. e ≡ edits_fault fault };
+
+    fn from(fault: EditsFault) -> SourceFault {
+        match fault {
+            EditsFault::Refused { kind, at } => SourceFault::Refused {
+                kind: edit_number(kind),
+                at,
+            },
+            EditsFault::Memory => SourceFault::Memory,
+        }
     }
 }
 
@@ -47,14 +51,8 @@ fn lines_of(alloc: Global, bytes: &[u8]) -> Result<Vec<u8>, SourceFault>
     ensures refused { IfErr result (λ fault. IsSessionFault bytes.now fault) }
 {
     let mut names = Names::new(alloc);
-    let text = match read_text(alloc, bytes, &mut names) {
-        Ok(text) => text,
-        Err(fault) => return Err(read_fault(fault)),
-    };
-    match play(alloc, text.clauses, &mut names) {
-        Ok(lines) => Ok(lines),
-        Err(fault) => Err(edits_fault(fault)),
-    }
+    let text = read_text(alloc, bytes, &mut names)?;
+    Ok(play(alloc, text.clauses, &mut names)?)
 }
 
 /// The answer to a text of edits: what they tell, or why they are refused.

@@ -9,7 +9,7 @@ ghost use Rattle.clause_normal.specs.Numbering.{is_equality};
 ghost use Rattle.cti_top.specs.Refusal.{lexical_number, read_number, normal_number};
 ghost use Rattle.cti_top.specs.Programs.{IsProgramOf};
 ghost use Rattle.cti_top.specs.Known.{NamesBuiltins};
-ghost use Rattle.cti_top.specs.Faults.{IsProgramFault, read_fault, normal_fault};
+ghost use Rattle.cti_top.specs.Faults.{IsProgramFault};
 
 use clause_normal::{NormFault, NormKind, normal};
 use cti_terms::{Names, Program};
@@ -77,29 +77,37 @@ pub fn normal_number(kind: NormKind) -> u32
     }
 }
 
-/// A fault in reading as one of the text.
-pub fn read_fault(fault: ReadFault) -> SourceFault
-    ensures { result ≡ read_fault fault }
-{
-    match fault {
-        ReadFault::Fault { kind, at } => SourceFault::Refused {
-            kind: read_number(kind),
-            at,
-        },
-        ReadFault::Memory => SourceFault::Memory,
+impl From<ReadFault> for SourceFault {
+    ghost use Rattle.std.specs.Prelude.{◌≡◌};
+    ghost use Rattle.cti_top.specs.Faults.{read_fault};
+
+    ghost from_gives = { λ fault e. e ≡ read_fault fault };
+
+    fn from(fault: ReadFault) -> SourceFault {
+        match fault {
+            ReadFault::Fault { kind, at } => SourceFault::Refused {
+                kind: read_number(kind),
+                at,
+            },
+            ReadFault::Memory => SourceFault::Memory,
+        }
     }
 }
 
-/// A fault of the normal form as one of the text.
-pub fn normal_fault(fault: NormFault) -> SourceFault
-    ensures { result ≡ normal_fault fault }
-{
-    match fault {
-        NormFault::Fault { kind, at } => SourceFault::Refused {
-            kind: normal_number(kind),
-            at,
-        },
-        NormFault::Memory => SourceFault::Memory,
+impl From<NormFault> for SourceFault {
+    ghost use Rattle.std.specs.Prelude.{◌≡◌};
+    ghost use Rattle.cti_top.specs.Faults.{normal_fault};
+
+    ghost from_gives = { λ fault e. e ≡ normal_fault fault };
+
+    fn from(fault: NormFault) -> SourceFault {
+        match fault {
+            NormFault::Fault { kind, at } => SourceFault::Refused {
+                kind: normal_number(kind),
+                at,
+            },
+            NormFault::Memory => SourceFault::Memory,
+        }
     }
 }
 
@@ -116,20 +124,13 @@ pub fn program_in(alloc: Global, bytes: &[u8]) -> Result<Source, SourceFault>
     ensures refused { IfErr result (λ fault. IsProgramFault bytes.now fault) }
 {
     let mut names = Names::new(alloc);
-    let text = match read_text(alloc, bytes, &mut names) {
-        Ok(text) => text,
-        Err(fault) => return Err(read_fault(fault)),
-    };
+    let text = read_text(alloc, bytes, &mut names)?;
     let program = normal(alloc, &text, &mut names);
     // No two names have the same text, so that the texts tell the names apart.
     names.count();
-    let program = match program {
-        Ok(program) => program,
-        Err(fault) => return Err(normal_fault(fault)),
-    };
     Ok(Source {
         names,
         ops: text.ops,
-        program,
+        program: program?,
     })
 }
