@@ -1,8 +1,8 @@
 //! The facts of a certificate's parts, in the order of the format.
 //!
 //! `facts_of` is the other direction of `parts_of` of cert_structure, which finds the same parts in these facts.
-//! `Writer` and `write_each` are for any type of facts, and so are the writers of what certificates of lists of mappings
-//! have too (`FromShared`): `lex_certificate` writes its facts by them.
+//! `Writer` and `write_each` are for any type of facts, and so are the writers of the facts that both kinds of
+//! certificates have (`FromShared`): `lex_certificate` writes its own by them.
 #![tactic(auto)]
 
 mod fields;

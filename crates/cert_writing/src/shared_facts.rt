@@ -8,11 +8,11 @@ ghost use Rattle.certificate.specs.declared.pred_text.PredText.{PredText as TheP
 use certificate::{CertCell, Fact, PredText};
 use sequences::Sequence;
 
-/// A fact of either kind of certificate, made of what it says. `AsShared` of `cert_structure` looks at it again.
+/// A fact of either kind of certificate, made of what it says. `AsShared` of `cert_structure` is the way back.
 ///
 /// Clauses, calls, mappings, lists, rows and arguments are numbered from 1. A row has its constant first.
 pub trait FromShared: Drop {
-    /// The fact that says this, of each kind.
+    /// The fact that each call below makes.
     ghost mode_fact: { ThePred → List (List ℕ) → Self };
 
     ghost size_fact: { ThePred → ℕ → List ℤ → Self };
@@ -31,7 +31,7 @@ pub trait FromShared: Drop {
     fn size(pred: PredText, index: u64, row: Sequence<i128>) -> Self
         ensures { result ≡ size_fact pred index row };
 
-    /// The multipliers by which a clause keeps a size row of its head.
+    /// The multipliers by which a clause keeps a size row of its head; `scale` is that of the row itself.
     fn by(clause: u32, index: u64, scale: i128, multipliers: Sequence<i128>) -> Self
         ensures { result ≡ proof_fact clause index scale multipliers };
 

@@ -20,7 +20,8 @@ fn end_line(out: &mut Vec<u8>) -> Result<(), AllocError>
     out.extend_from_slice(b").\n")
 }
 
-/// Appends the line of a mark: a text up to the step's number, the number, and the end of the line.
+/// Appends the line of a weak image or a weak step: a text up to the step's number, the number, and the end of the
+/// line.
 pub fn line_of_mark(out: &mut Vec<u8>, before: &[u8], step: &u64) -> Result<(), AllocError>
     ensures { OnOk result (out.new.items ≡ out.old.items ++ before.now ++ decimal step.now
         ++ codes ")).\n") }
@@ -38,7 +39,7 @@ pub fn line_of_one<A: Field>(out: &mut Vec<u8>, before: &[u8], a: &A) -> Result<
     end_line(out)
 }
 
-/// Appends a text, two parts with commas between, and the end of the line.
+/// Appends a text, two parts with a comma between them, and the end of the line.
 pub fn line_of_two<A: Field, B: Field>(
     out: &mut Vec<u8>,
     before: &[u8],

@@ -50,7 +50,7 @@ fn form_mistake<'a>(line: &[u8]) -> Option<FactMistake<'a>> {
     }
 }
 
-/// What a line of a certificate shows that is not a fact. `is_unended` is whether no line comes after it.
+/// What a line that is not a fact shows. `is_unended` is whether no line comes after it.
 pub fn line_mistake<'a>(line: &'a [u8], is_unended: bool) -> Option<FactMistake<'a>> {
     if let Some(mistake) = form_mistake(line) {
         return Some(mistake);
@@ -137,7 +137,7 @@ fn unordered_mode(modes: &[u8]) -> Option<ModeNumbers> {
     None
 }
 
-/// What a line of a certificate shows that has modes.
+/// What a `terminates` line shows whose modes have their numbers in a wrong order.
 pub fn mode_mistake<'a>(line: &[u8]) -> Option<FactMistake<'a>> {
     if !line.starts_with(b"terminates(") {
         return None;

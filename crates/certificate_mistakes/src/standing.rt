@@ -36,7 +36,7 @@ fn order_mistake<'a>(before: &[u8], form: &'static FactForm) -> Option<FactMista
     }
 }
 
-/// What a certificate shows, whose fact of this line may not stand after that of the line before.
+/// What a certificate shows, whose fact of line `number`, from 1, may not follow that of the line before.
 pub fn standing_mistake<'a>(
     text: &[u8],
     number: u64,

@@ -1,9 +1,10 @@
 //! The normal form of a text's clauses: a program of pure clauses, or the first fault.
 //!
-//! A body is a conjunction of calls, and each disjunction becomes a predicate of its own, whose clauses are its branches.
-//! `specs/NormalForm.antt` says which program that is and which fault comes first, and `specs/Query.antt` the same of queries.
-//! `specs/Definite.antt` says it of clauses without disjunctions, one at a time, so that they may come and go.
-//! Depends on `clause_variables` for the variables of clauses, `cti_terms` for programs, `prolog_reader` for clauses with places, and `thiserror`.
+//! A body is a conjunction of calls, and each disjunction becomes a predicate of its own, whose clauses are its
+//! branches. `specs/NormalForm.antt` says which program that is and which fault comes first, and `specs/Query.antt` the
+//! same of queries. `specs/Definite.antt` says it of clauses without disjunctions, one at a time, so that they may come
+//! and go. Depends on `clause_variables` for the variables of clauses, `cti_terms` for programs, `prolog_reader` for
+//! clauses with places, and `thiserror`.
 #![tactic(auto)]
 
 mod body;

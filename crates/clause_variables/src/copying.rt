@@ -71,6 +71,8 @@ fn copied(alloc: Global, term: &ReadTerm, order: &[u32], left: &mut u32) -> Resu
 }
 
 /// Arguments with their variables numbered by their places in an order.
+///
+/// `left` is how many nodes may still be made, and goes down by those of the copies; out of memory, if these are more.
 pub fn copied_args(
     alloc: Global,
     args: &Args,

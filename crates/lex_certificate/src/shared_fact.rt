@@ -1,4 +1,4 @@
-//! What facts say that certificates of mappings have too.
+//! What facts say that certificates of mappings have too, and the facts made of that.
 
 ghost use Rattle.lex_certificate.specs.Walk.{shared};
 ghost use Rattle.lex_certificate.specs.declared.fact.LexFact.TheVariants as lex;

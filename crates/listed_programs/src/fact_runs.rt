@@ -7,7 +7,9 @@ use std::alloc::{AllocError, Global};
 /// The first of a predicate's facts, and how many there are.
 #[derive(Clone, Copy)]
 pub struct Run {
+    /// The place of the first fact, counted from 0.
     pub start: usize,
+    /// How many facts there are.
     pub count: usize,
 }
 

@@ -27,7 +27,7 @@ impl Drop for Listed {
 /// The predicates of integers, each with two arguments: the one that computes, and the comparisons.
 const STEPS: [&[u8]; 7] = [b"is", b"=:=", b"=\\=", b"<", b"=<", b">", b">="];
 
-/// A step that no clause makes.
+/// A goal of integers, which needs no clause.
 #[derive(Clone, Copy, PartialEq, Eq)]
 pub enum Step {
     /// One that computes an integer.

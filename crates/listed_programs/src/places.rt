@@ -176,7 +176,7 @@ impl Places {
         Ok(())
     }
 
-    /// The place of a clause, whose number counts from 1.
+    /// The place of a clause in the text, in bytes from 0. The clause's number counts from 1.
     pub fn clause(&self, number: u32) -> Option<u32> {
         let place = number.checked_sub(1)?;
         Some(self.clauses.get(place as usize)?.at)
@@ -193,12 +193,13 @@ impl Places {
         own.get(call.checked_sub(1)? as usize).copied()
     }
 
-    /// The place of a call of a clause that has this many, where the text agrees. Both numbers count from 1.
+    /// The place of a call of a clause, in bytes from 0; none if the clause has not `count` calls in the text. Both
+    /// numbers count from 1.
     pub fn call(&self, number: u32, call: u32, count: usize) -> Option<u32> {
         Some(self.call_place(number, call, count)?.at)
     }
 
-    /// The places of the variables of such a call, in the order of the text.
+    /// The places of the variables of such a call, in bytes from 0 and in the order of the text.
     pub fn variables(&self, number: u32, call: u32, count: usize) -> &[u32] {
         let Some(place) = self.call_place(number, call, count) else {
             return &[];

@@ -3,7 +3,8 @@
 //!
 //! The answer on standard output is made elsewhere, and its beginning is read here as any reader would read it:
 //! `Ending` says how the call ended and which texts it loaded, and `explain` makes the message. It depends on
-//! `mistakes`, for what a text shows about a mistake.
+//! `mistakes` and `certificate_mistakes` for what a text shows about a mistake, on `mistake_sentences` for how that is
+//! said, on `token_search` for places, and on `word_faults` for the words.
 #![tactic(auto)]
 
 mod advising;

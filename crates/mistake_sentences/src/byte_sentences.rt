@@ -18,7 +18,7 @@ pub enum ByteMistake {
 }
 
 impl ByteMistake {
-    /// What it is shown as.
+    /// Its sentence, with a `{}` for each thing that `shown` gives.
     pub fn sentence(self) -> &'static str {
         match self {
             Self::ByteOrderMark => "save the file without the byte order mark at its beginning",
@@ -37,7 +37,7 @@ impl ByteMistake {
         }
     }
 
-    /// What its sentence shows.
+    /// What stands in the places of its sentence, in their order.
     pub fn shown<'a>(self) -> [Shown<'a>; 3] {
         match self {
             Self::Sign(sign, plain) => {

@@ -28,7 +28,7 @@ pub enum ClauseMistake<'a> {
 }
 
 impl<'a> ClauseMistake<'a> {
-    /// What it is shown as.
+    /// Its sentence, with a `{}` for each thing that `shown` gives.
     pub fn sentence(self) -> &'static str {
         match self {
             Self::CommaForDot => "does the clause before end with a comma in place of its dot?",
@@ -57,7 +57,7 @@ impl<'a> ClauseMistake<'a> {
         }
     }
 
-    /// What its sentence shows.
+    /// What stands in the places of its sentence, in their order.
     pub fn shown(self) -> [Shown<'a>; 3] {
         match self {
             Self::VariableName(name) | Self::Space(name) | Self::NoParentheses(name) => [

@@ -11,7 +11,7 @@ pub enum EditMistake {
 }
 
 impl EditMistake {
-    /// What it is shown as.
+    /// Its sentence.
     pub fn sentence(self) -> &'static str {
         match self {
             Self::Add =>

@@ -37,7 +37,7 @@ pub enum FactMistake<'a> {
 }
 
 impl<'a> FactMistake<'a> {
-    /// What it is shown as.
+    /// Its sentence, with a `{}` for each thing that `shown` gives.
     pub fn sentence(self) -> &'static str {
         match self {
             Self::OfLists =>
@@ -71,7 +71,7 @@ impl<'a> FactMistake<'a> {
         }
     }
 
-    /// What its sentence shows.
+    /// What stands in the places of its sentence, in their order.
     pub fn shown(self) -> [Shown<'a>; 3] {
         match self {
             Self::ModeOrder(numbers) => [Shown::Mode(numbers), Shown::Nothing, Shown::Nothing],

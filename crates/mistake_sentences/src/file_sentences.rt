@@ -20,7 +20,7 @@ pub enum FileMistake<'a> {
 }
 
 impl<'a> FileMistake<'a> {
-    /// What it is shown as.
+    /// Its sentence, with a `{}` for each thing that `shown` gives.
     pub fn sentence(self) -> &'static str {
         match self {
             Self::Query { .. } => "run it with `cti run {} {}`",
@@ -31,7 +31,7 @@ impl<'a> FileMistake<'a> {
         }
     }
 
-    /// What its sentence shows.
+    /// What stands in the places of its sentence, in their order.
     pub fn shown(self) -> [Shown<'a>; 3] {
         match self {
             Self::Query { file, query } => [Shown::Word(file), Shown::Word(query), Shown::Nothing],

@@ -25,7 +25,7 @@ pub enum GoalMistake {
 }
 
 impl GoalMistake {
-    /// What it is shown as.
+    /// Its sentence.
     pub fn sentence(self) -> &'static str {
         match self {
             Self::Variable => "a variable as a goal is not read: name the predicate",

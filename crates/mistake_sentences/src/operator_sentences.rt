@@ -23,7 +23,7 @@ pub enum OperatorMistake<'a> {
 }
 
 impl<'a> OperatorMistake<'a> {
-    /// What it is shown as.
+    /// Its sentence, with a `{}` for each thing that `shown` gives.
     pub fn sentence(self) -> &'static str {
         match self {
             Self::Module(_) => "`:` is not an operator here: modules are not read, leave out `{}:`",
@@ -47,7 +47,7 @@ impl<'a> OperatorMistake<'a> {
         }
     }
 
-    /// What its sentence shows.
+    /// What stands in the places of its sentence, in their order.
     pub fn shown(self) -> [Shown<'a>; 3] {
         match self {
             Self::SplitNeck | Self::Percent | Self::Constraint | Self::Chain => [Shown::Nothing; 3],

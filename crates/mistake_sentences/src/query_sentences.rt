@@ -14,7 +14,7 @@ pub enum QueryMistake {
 }
 
 impl QueryMistake {
-    /// What it is shown as.
+    /// Its sentence.
     pub fn sentence(self) -> &'static str {
         match self {
             Self::Empty => "the query is empty",

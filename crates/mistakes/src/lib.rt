@@ -1,8 +1,9 @@
 //! What a text shows about a mistake at a place of it: the usual ones of people who come from Prolog systems with more
 //! in them.
 //!
-//! Each call answers nothing where the text does not surely show the mistake. Places are tokens of `prolog_tokens`, and
-//! the sentences are those of `Mistake`. It depends on `prolog_tokens`.
+//! Each call answers nothing where the text does not surely show the mistake. Places are tokens of `prolog_tokens`,
+//! which are looked for by `token_search`, and the sentences are those of `mistake_sentences`. It depends on these
+//! three.
 #![tactic(auto)]
 
 mod byte_mistakes;

@@ -3,8 +3,8 @@
 //! `Causes` are what the facts of a certificate say of each predicate, and `View` finds the cause of one: the calls
 //! that a refutation names, what was given up, or the call that needs what no query gives it.
 //!
-//! It depends on `certificate` for the facts, on `call_components` and `cti_terms` for the program, on `prolog_reader`
-//! and `warnings` for clauses with places, and on `sequences`.
+//! It depends on `listed_programs` for the program and its places, on `certificate` for the facts, on `cti_terms` and
+//! `warnings` for names, and on `sequences`.
 #![tactic(auto)]
 
 mod cause;

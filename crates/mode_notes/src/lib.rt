@@ -5,8 +5,9 @@
 //!
 //! `call_notes` reads the texts of both again. Nothing that is answered depends on what it says, and it says no more
 //! than the facts do: the calls that a refutation names, what was given up, which call needs what no query gives it. It
-//! depends on `mode_causes` for the causes, on `certificate` for the facts, on `prolog_reader`, `clause_normal` and
-//! `cti_terms` for the program, on `messages` for the form, on `mistakes` for the names of files in commands, and on
+//! depends on `mode_causes` for the causes, on `listed_programs` for the program and its places, on `certificate` for
+//! the facts, on `prolog_reader`, `clause_normal` and `cti_terms` for texts, on `messages` for the form, on
+//! `mistake_sentences` for the names of files in commands, on `warnings` for predicates as they are shown, and on
 //! `thiserror`.
 #![tactic(auto)]
 

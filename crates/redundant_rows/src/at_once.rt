@@ -47,7 +47,7 @@ pub(crate) fn tested_from(
     }
 }
 
-/// Tests a row, first at a point where one may fail it.
+/// Tests whether a row holds wherever rows hold, first at `point`, where it may fail.
 pub fn tested_at(
     alloc: Global,
     rows: &Rows,

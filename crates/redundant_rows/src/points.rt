@@ -69,7 +69,7 @@ pub(crate) fn weighed(
     Ok(Some(Point { t, w }))
 }
 
-/// A point of a join, where one is known of each side.
+/// A point between two, if both are known and its numbers fit.
 pub fn between(
     alloc: Global,
     first: &Option<Point>,

@@ -58,7 +58,8 @@ fn core(alloc: Global, rows: Rows, inside: &Option<Point>) -> Result<Rows, Alloc
 
 /// An irredundant part of the rows that the elimination of the last columns leaves, or none where it is blown.
 ///
-/// `inside` may be a point of these rows.
+/// The first `kept` columns stay, and the last `count` are eliminated. `inside` is a hint, which may be wrong: a point
+/// of the rows that are left.
 pub fn projected(
     alloc: Global,
     rows: &Rows,

@@ -11,10 +11,11 @@ use crate::lines::Lines;
 use crate::sign::{at_most, is_zero};
 use std::alloc::{AllocError, Global};
 
-/// The most rows that a step may leave.
+/// The most rows that a step of elimination may leave.
 pub const MOST_ROWS: usize = 4096;
 
-/// The kept rows with those that have 0 in column `k`.
+/// Adds to the kept rows those that have 0 in column `k`. The constant is column 0, and the coefficients are the
+/// columns 1 to `last`.
 pub fn add_without(
     alloc: Global,
     kept: &mut Lines,
@@ -34,7 +35,8 @@ pub fn add_without(
     Ok(())
 }
 
-/// The kept rows with one more, divided first. Nothing more is kept where there are too many.
+/// Adds a row to the kept ones, divided first. Nothing is added once more than [`MOST_ROWS`] rows are kept. The
+/// coefficients are the columns 1 to `last`.
 pub fn add(alloc: Global, kept: &mut Lines, row: Line, last: usize) -> Result<(), AllocError>
     requires { All Fits row }
     ensures { OnOk result (kept.new ≡ add_row last kept.old row) }

@@ -1,8 +1,8 @@
 //! Rows as lists of their numbers that are not 0, and lists of such rows.
 //!
-//! Each is seen as the plain list of all its numbers, which have at most 127 bits. A list finds its rows by marks. Rows
-//! that are kept are cleaned as linear_rows defines: `add` divides them, and leaves out those that say nothing new. The
-//! crate depends on `exact128` and `linear_rows`.
+//! Each is seen as the plain list of all its numbers, which have 128 bits; `fits` says whether they have at most 127. A
+//! list finds its rows by marks. Rows that are kept are cleaned as linear_rows defines: `add` divides them, and leaves
+//! out those that say nothing new. The crate depends on `exact128` and `linear_rows`.
 #![tactic(auto)]
 
 mod cleaning;

@@ -180,7 +180,7 @@ impl Line {
         shared_of(self.parts.as_slice(), self.tail)
     }
 
-    /// The row, each number divided by `part`.
+    /// The row, each number divided by `part`, rounded toward 0.
     pub fn divided_by(&self, alloc: Global, part: u128) -> Result<Line, AllocError>
         requires some { 0 < part }
         requires fits { part < 2 ^ 127 }

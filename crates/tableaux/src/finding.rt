@@ -30,7 +30,7 @@ pub fn found(alloc: Global, rows: &Rows) -> Result<Option<Solved>, AllocError>
     }
 }
 
-/// The most pivots for rows of this number and width.
+/// The most pivots for `many` rows of a width: 8 times the sum of both, and 64 more. None where that does not fit.
 pub fn most_pivots(width: usize, many: usize) -> Option<usize>
     ensures { IfSome result (λ _. width + many < 2 ^ 64) }
 {
@@ -56,7 +56,7 @@ fn point_of(rows: &Rows, values: Numbers) -> Option<Solved>
     }
 }
 
-/// Whether numbers are a point at which each row holds, as far as this is seen in numbers that fit.
+/// Whether each row holds at the point `w` over `t`, as far as this is seen in numbers that fit. False shows nothing.
 pub fn is_point(rows: &Rows, t: i128, w: &[i128]) -> bool
     requires { HaveWidth rows.now.width rows.now.list }
     ensures { result ≡ true → IsPoint rows.now.width (plain_rows rows.now.list) t w.now }
@@ -95,7 +95,7 @@ fn holds_at(row: &Row, t: i128, w: &[i128]) -> bool
     }
 }
 
-/// The value of a row, where the numbers that it is formed of fit.
+/// The value of a row at `w` over `t`, times `t`. None where a number that it is formed of does not fit.
 pub fn value_at(row: &Row, t: i128, w: &[i128]) -> Option<i128>
     requires { length w.now ≡ length row.now.coeffs }
     ensures { IfSome result (λ value. value ≡ dot (plain_row row.now) (t ∷ w.now)) }

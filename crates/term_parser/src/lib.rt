@@ -1,4 +1,4 @@
-//! The parser of terms: it takes a token at a time, holds a stack of what is open and never recurses.
+//! The parser of a clause's term: it takes a token at a time, holds a stack of what is open and never recurses.
 //!
 //! It follows `walk_step` of `prolog_grammar`, whose laws say what tokens read as. Depends on `cti_terms` for names,
 //! `prolog_operators` for operators, and `prolog_terms` for tokens as the grammar sees them and terms with places.

@@ -1,4 +1,4 @@
-//! The parser of a clause: it takes a token at a time, in a state and with a stack of what is open.
+//! The parser of a clause's term: it takes a token at a time, in a state and with a stack of what is open.
 //!
 //! It follows `walk_step` of prolog_grammar, whose laws say what it answers.
 
@@ -33,7 +33,8 @@ impl<'a> Parser<'a> {
         }
     }
 
-    /// Takes one token, which a parenthesis touches or not. After an error nothing is said of the parser.
+    /// Takes one token. `is_touched` says whether a `(` stands right after it. After an error nothing is said of the
+    /// parser.
     pub fn step(
         &mut self,
         state: State,

@@ -13,7 +13,7 @@ use cti_terms::Name;
 use prolog_terms::{Known, ReadShape, ReadTerm};
 use std::alloc::{AllocError, Global};
 
-/// A term and how deep it is, counted up to the limit.
+/// A term and how deep it is, counted up to the limit: 1 for a name, a variable or an integer.
 #[derive(Drop)]
 pub struct Part {
     pub term: ReadTerm,

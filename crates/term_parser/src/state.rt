@@ -12,7 +12,7 @@ pub struct NameRead {
     pub name: Name,
 }
 
-/// What was read last, in a term of the given bound.
+/// What was read last, in a term of the given bound: the highest priority that it may have. Places are bytes from 0.
 #[derive(Drop)]
 pub enum State {
     /// An operand begins here.

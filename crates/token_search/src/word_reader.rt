@@ -15,7 +15,9 @@ const MOST_SHOWN: usize = 60;
 pub struct Word<'a> {
     pub kind: TokenKind,
     pub text: &'a [u8],
+    /// Where it begins, in bytes from where its reader started.
     pub start: u32,
+    /// Where it ends, likewise.
     pub end: u32,
 }
 
@@ -40,7 +42,7 @@ fn bounded(text: &[u8]) -> &[u8]
 }
 
 impl<'a> WordReader<'a> {
-    /// Starts at a byte of a text.
+    /// Starts at a byte of a text. There are no tokens where more than 16,777,216 bytes are left.
     pub fn new(text: &'a [u8], at: usize) -> WordReader<'a> {
         let text = bounded(text.get(at..).unwrap_or(&[]));
         WordReader {
@@ -133,7 +135,7 @@ impl<'a> Word<'a> {
     }
 }
 
-/// The text of a name, if it is short enough to be shown.
+/// The text of a name, if it is UTF-8 and has at most 60 bytes.
 pub fn shown_name(text: &[u8]) -> Option<&str> {
     if text.len() > MOST_SHOWN {
         return None;

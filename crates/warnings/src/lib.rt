@@ -2,8 +2,8 @@
 //! that occur only once, and expressions that never have a value.
 //!
 //! The text that was loaded is read again, and nothing that is answered depends on it. It depends on `prolog_reader`
-//! for clauses with places, on `cti_terms` and `prolog_tokens` for names, on `messages` for the form, on `indexmap` and on
-//! `thiserror`.
+//! for clauses with places, on `cti_terms` and `prolog_tokens` for names, on `messages` for the form, on `mistakes`
+//! for certificates, on `indexmap` and on `thiserror`.
 #![tactic(auto)]
 
 mod calls;

@@ -58,7 +58,7 @@ fn variables_at(alloc: Global, text: &[u8], places: &[u32]) -> Result<String, Al
     Ok(said)
 }
 
-/// A predicate as it is said, if there is one.
+/// A predicate as it is said, or an empty text if there is none.
 fn said(alloc: Global, names: &Names, pred: Option<Pred>) -> Result<String, AllocError> {
     match pred {
         Some(pred) => indicator_of(alloc, text_of(names, pred.name), pred.arity),
@@ -66,7 +66,7 @@ fn said(alloc: Global, names: &Names, pred: Option<Pred>) -> Result<String, Allo
     }
 }
 
-/// A warning about these predicates as it is said, or one about named variables, of which there are this many.
+/// The sentence of a warning about `pred` and `other`, or about `count` variables.
 fn sentence_of<'a>(
     warning: Warning,
     pred: &'a str,

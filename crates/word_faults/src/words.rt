@@ -68,12 +68,12 @@ impl<'a> Words<'a> {
         told
     }
 
-    /// The file that has the program.
+    /// The file that has the program, or an empty text if none is named.
     pub fn file(self) -> &'a str {
         self.file.unwrap_or("")
     }
 
-    /// The file that has the certificate, or the query.
+    /// The file that has the certificate, or the query; an empty text if there is none.
     pub fn second(self) -> &'a str {
         self.second.unwrap_or("")
     }
