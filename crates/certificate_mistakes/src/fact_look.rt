@@ -3,7 +3,7 @@
 use crate::fact_forms::{FactForm, form_of};
 use mistake_sentences::{FactMistake, MOST_ARGUMENTS};
 use prolog_tokens::TokenKind;
-use token_search::{Look, Word, WordReader, first_name, shown_name};
+use token_search::{Look, TextToken, TokenReader, first_name, shown_name};
 
 /// The names of the norms.
 const NORMS: [&[u8]; 2] = [b"term", b"list"];
@@ -17,7 +17,7 @@ struct FactLook<'a> {
     /// The number of the part, from 0.
     part: u32,
     /// The token before.
-    before: Option<Word<'a>>,
+    before: Option<TextToken<'a>>,
     /// What is wrong, where something is.
     found: Option<FactMistake<'a>>,
 }
@@ -54,7 +54,7 @@ fn without_zeros(number: &[u8]) -> Option<&str> {
 }
 
 impl<'a> Look<'a> for FactLook<'a> {
-    fn take(&mut self, word: Word<'a>) -> bool {
+    fn take(&mut self, word: TextToken<'a>) -> bool {
         if word.opens() {
             self.depth = self.depth.saturating_add(1);
         } else if word.closes() {
@@ -121,7 +121,7 @@ impl<'a> FactLook<'a> {
     }
 
     /// What a token shows that is no bracket and no comma.
-    fn mistake_in(&self, word: Word<'a>) -> Option<FactMistake<'a>> {
+    fn mistake_in(&self, word: TextToken<'a>) -> Option<FactMistake<'a>> {
         if self.is_of("norm") && !NORMS.contains(&word.text) {
             return Some(FactMistake::Norm);
         }
@@ -137,7 +137,7 @@ impl<'a> FactLook<'a> {
     }
 
     /// What a number shows.
-    fn number_mistake(&self, word: Word<'a>, number: i128) -> Option<FactMistake<'a>> {
+    fn number_mistake(&self, word: TextToken<'a>, number: i128) -> Option<FactMistake<'a>> {
         if let Some(rest) = without_zeros(word.text) {
             return Some(FactMistake::LeadingZero(rest));
         }
@@ -169,7 +169,7 @@ impl<'a> FactLook<'a> {
 
 /// What is wrong with a line of a certificate that is not a fact, where the line shows it.
 pub(crate) fn fact_mistake<'a>(line: &'a [u8]) -> Option<FactMistake<'a>> {
-    let mut reader = WordReader::new(line, 0);
+    let mut reader = TokenReader::new(line, 0);
     let name = reader.next()?;
     match form_of(name.text) {
         Some(form) => match reader.next() {
@@ -182,7 +182,7 @@ pub(crate) fn fact_mistake<'a>(line: &'a [u8]) -> Option<FactMistake<'a>> {
 
 /// What the parts of a fact of this form show, after the bracket that opens them.
 fn parts_mistake<'a>(
-    reader: &mut WordReader<'a>,
+    reader: &mut TokenReader<'a>,
     form: &'static FactForm,
 ) -> Option<FactMistake<'a>> {
     let mut look = FactLook {

@@ -13,6 +13,7 @@ pub mod DefiniteLemmas
 pub mod DefiniteLater
 pub mod DefinitePrograms
 pub mod PlaceLemmas
+pub mod PartedPlaces
 pub mod SizeLemmas
 pub mod LimitLemmas
 pub mod QueryLimits

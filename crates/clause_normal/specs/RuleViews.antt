@@ -1,6 +1,6 @@
 -- Private.
 -- Clauses of the code as those of the definitions. Nothing here has to be believed.
-use Rattle.std.specs.Prelude.{◌<◌, ◌≤◌, ℕ, List, map, length}
+use Rattle.std.specs.Prelude.{◌<◌, ◌≤◌, ℕ, map, length}
 use Rattle.std.specs.List.{AllByRecursion}
 use Rattle.clause_normal.specs.declared.rule.Functor.{Functor as CodeFunctor}
 use Rattle.clause_normal.specs.declared.rule.Functor.TheVariants as functor

@@ -12,12 +12,12 @@ use crate::fault::NormKind;
 use crate::goal::Goal;
 use crate::outline::{Outline, Piece};
 use crate::part::Item;
-use clause_variables::{Places, is_among};
+use clause_variables::{Occurrences, is_among};
 use cti_terms::MOST_ARGUMENTS;
 use std::alloc::{AllocError, Global};
 
 /// Whether a variable occurs before a place, or from another on, and is not among these.
-fn is_new(places: &Places, start: usize, end: usize, order: &[u32], x: u32) -> bool
+fn is_new(places: &Occurrences, start: usize, end: usize, order: &[u32], x: u32) -> bool
     requires firsts { x < length places.now.firsts.items }
     requires ends { x < length places.now.ends.items }
     ensures { result ≡ ((nat_lt (slice_index places.now.firsts.items x) start
@@ -31,7 +31,7 @@ fn is_new(places: &Places, start: usize, end: usize, order: &[u32], x: u32) -> b
 /// more than a predicate has arguments.
 fn shared(
     alloc: Global,
-    places: &Places,
+    places: &Occurrences,
     start: usize,
     end: usize,
     own: &[u32],
@@ -59,7 +59,7 @@ fn shared(
 /// start at a place among those of the clause, and its branches are given.
 fn choice_goal<'a, 'v, 'o>(
     alloc: Global,
-    places: &Places,
+    places: &Occurrences,
     at: u32,
     start: usize,
     own: &[u32],
@@ -85,7 +85,7 @@ fn choice_goal<'a, 'v, 'o>(
 /// A piece of a body as a goal of a clause whose variables' places are noted. Those of the piece start at a place.
 fn goal<'a, 'v, 'o>(
     alloc: Global,
-    places: &Places,
+    places: &Occurrences,
     start: usize,
     piece: &'o Piece<'a, 'v>,
 ) -> Result<Goal<'a, 'v, 'o>, AllocError>
@@ -116,7 +116,7 @@ fn own<'v>(piece: &Piece<'_, 'v>) -> &'v [u32]
 /// The goals of a body of a clause whose variables' places are noted. Those of the body start at a place and are the last.
 fn goals<'a, 'v, 'o>(
     alloc: Global,
-    places: &Places,
+    places: &Occurrences,
     first: usize,
     pieces: &'o [Piece<'a, 'v>],
 ) -> Result<Vec<Goal<'a, 'v, 'o>>, AllocError>
@@ -153,7 +153,7 @@ fn with_own(alloc: Global, args: &[u32], pieces: &[Piece]) -> Result<Vec<u32>, A
 /// The goals of a body as a branch of a disjunction whose predicate has these arguments.
 pub(crate) fn body_goals<'a, 'v, 'o>(
     alloc: Global,
-    places: &mut Places,
+    places: &mut Occurrences,
     args: &[u32],
     body: &'o Outline<'a, 'v>,
 ) -> Result<Vec<Goal<'a, 'v, 'o>>, AllocError>

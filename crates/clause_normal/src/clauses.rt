@@ -22,7 +22,7 @@ use crate::limits::MOST_TEXT_CLAUSES;
 use crate::making::add_rules;
 use crate::outlining::outlined;
 use crate::rule::{Call, Rule};
-use clause_variables::{Places, firsts, term_variables};
+use clause_variables::{Occurrences, firsts, term_variables};
 use cti_terms::{MOST_VARIABLES, Names};
 use prolog_reader::{ReadClause, ReadTerm};
 use std::alloc::{AllocError, Global};
@@ -172,7 +172,7 @@ fn add_with_variables<'a>(
 {
     let own = term_variables(alloc, implication.body)?;
     let outline = outlined(alloc, names, implication.body, &own)?;
-    let mut places = Places::new(alloc, implication.vars)?;
+    let mut places = Occurrences::new(alloc, implication.vars)?;
     add_rules(alloc, &mut places, made, next, call, args, &outline)
 }
 

@@ -33,4 +33,3 @@ pub use forms::is_silent_goal;
 pub use limits::MOST_TEXT_CLAUSES;
 pub use query::normal_query;
 pub use text_program::normal;
-pub use words::Neck;

@@ -17,7 +17,7 @@ use crate::level::{choice_call, level_of};
 use crate::outline::Outline;
 use crate::part::Item;
 use crate::rule::{Call, Rule};
-use clause_variables::Places;
+use clause_variables::Occurrences;
 use std::alloc::{AllocError, Global};
 
 /// How many disjunctions a goal is, those in it aside.
@@ -60,7 +60,7 @@ fn add_rule<'a>(
 #[cycle(making)]
 pub(crate) fn add_rules<'a, 'v, 'o>(
     alloc: Global,
-    places: &mut Places,
+    places: &mut Occurrences,
     made: &mut Vec<Rule<'a>>,
     first: u64,
     head: Call<'a>,
@@ -87,7 +87,7 @@ pub(crate) fn add_rules<'a, 'v, 'o>(
 #[cycle(making)]
 fn add_below<'a, 'v, 'o>(
     alloc: Global,
-    places: &mut Places,
+    places: &mut Occurrences,
     made: &mut Vec<Rule<'a>>,
     first: u64,
     next: u64,
@@ -120,7 +120,7 @@ fn add_below<'a, 'v, 'o>(
 #[cycle(making)]
 fn add_goal<'a, 'v, 'o>(
     alloc: Global,
-    places: &mut Places,
+    places: &mut Occurrences,
     made: &mut Vec<Rule<'a>>,
     number: u64,
     next: u64,
@@ -152,7 +152,7 @@ fn add_goal<'a, 'v, 'o>(
 #[cycle(making)]
 fn add_branches<'a, 'v, 'o>(
     alloc: Global,
-    places: &mut Places,
+    places: &mut Occurrences,
     made: &mut Vec<Rule<'a>>,
     number: u64,
     next: u64,

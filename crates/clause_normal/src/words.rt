@@ -208,7 +208,7 @@ pub(crate) fn connective_of(text: &[u8], arity: usize) -> Connective
 
 /// What a name makes of a clause's term.
 #[derive(Clone, Copy)]
-pub enum Neck {
+pub(crate) enum Neck {
     /// A directive, as `:- dynamic(p)`.
     Directive,
     /// A query, as `?- p`.

@@ -5,7 +5,7 @@ use Rattle.std.proofs.lemmas.Bool.{eqb-true, eqb-false, ltb-true, ltb-false, lt-
 use Rattle.std.proofs.lemmas.List.{take_all, take_at, take-append-drop, take-take}
 use Rattle.std.proofs.lemmas.List.Sums.{sum_by-append, count_by_more_yes, count_by_more_no}
 use Rattle.clause_variables.specs.Occurring.{AreEnds, AreFirsts, AreNoted, count_to}
-use Rattle.clause_variables.specs.declared.places.Places.{Places}
+use Rattle.clause_variables.specs.declared.occurrences.Occurrences.{Occurrences}
 use Rattle.clause_variables.specs.Terms.{count, firsts}
 use Rattle.clause_variables.proofs.OrderLemmas.{count_head}
 
@@ -73,7 +73,7 @@ module _ (xs : List ℕ) (i : ℕ) (old new : List ℕ) (v : ℕ) (lt : i < leng
           by_place false l = let s = no x e in let is = is_old x e in omega (arith, s, h.from x k (omega (arith, s, some)) (omega (arith, is, le)) (omega (arith, ltb-false i k l)))
 
 -- what occurs before a place or from another on occurs more often than between them
-module _ (before own after : List ℕ) (p : Places) (h : AreNoted (before ++ (own ++ after)) p) where
+module _ (before own after : List ℕ) (p : Occurrences) (h : AreNoted (before ++ (own ++ after)) p) where
   abbrev all : List ℕ
   all = before ++ (own ++ after)
 

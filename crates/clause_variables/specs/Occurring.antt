@@ -1,7 +1,7 @@
 -- Private.
 -- Tables of where the variables of a list occur. Nothing here has to be believed.
 use Rattle.std.specs.Prelude.{◌≡◌, ◌<◌, ◌≤◌, ℕ, List, length, slice_index, take}
-use Rattle.clause_variables.specs.declared.places.Places.{Places}
+use Rattle.clause_variables.specs.declared.occurrences.Occurrences.{Occurrences}
 use Rattle.clause_variables.specs.Terms.{count}
 
 -- how often a variable occurs before a place
@@ -19,11 +19,11 @@ pub record AreEnds (xs : List ℕ) (i : ℕ) (ends : List ℕ) : Type 0 where
   pub from : (x k : ℕ) → 1 ≤ count_to xs i x → slice_index ends x ≤ k → k ≤ i → count_to xs k x ≡ count_to xs i x
 
 -- there is room for the given number of variables
-pub record HasSize (vars : ℕ) (p : Places) : Type 0 where
+pub record HasSize (vars : ℕ) (p : Occurrences) : Type 0 where
   pub firsts : length p.firsts.items ≡ vars
   pub ends : length p.ends.items ≡ vars
 
 -- these are the places of the variables of this list
-pub record AreNoted (xs : List ℕ) (p : Places) : Type 0 where
+pub record AreNoted (xs : List ℕ) (p : Occurrences) : Type 0 where
   pub firsts : AreFirsts xs 0 p.firsts.items
   pub ends : AreEnds xs (length xs) p.ends.items

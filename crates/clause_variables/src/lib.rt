@@ -6,12 +6,12 @@
 
 mod args;
 mod copying;
+mod occurrences;
 mod order;
-mod places;
 mod variables;
 
 pub use args::Args;
 pub use copying::copied_args;
+pub use occurrences::Occurrences;
 pub use order::{firsts, is_among};
-pub use places::Places;
 pub use variables::{add_variables, term_variables};

@@ -1,21 +1,20 @@
--- The place of an edit that is refused is one of the text of edits.
+-- An edit is refused at a place of its text, or at its end.
 use Rattle.std.proofs.Common.{◌≡◌, ℕ, ℤ, ◌≤◌, Bool, true, false, if◌then◌else◌, List, [], ◌∷◌, length, Option, Some, None, Ok, Err, subst, sym, refl}
 use Rattle.std.specs.Prelude.{nat_le, nat_lt, codes}
 use Rattle.std.specs.List.{AllByRecursion}
-use Rattle.clause_normal.specs.Definite.{Parted, no_clause, fact, rule, named_parts, parted, parts_fault, parted_fault, added_fault, program_of}
+use Rattle.clause_normal.specs.Definite.{Parted, no_clause, fact, rule, parted, parts_fault, parted_fault, added_fault, program_of}
 use Rattle.clause_normal.specs.NormalForm.{Fault, first_of, head_fault, is_silent_goal, named_head_fault, variables_fault}
 use Rattle.clause_normal.specs.Query.{query_calls, query_fault, query_goals, query_of}
 use Rattle.clause_normal.specs.Numbering.{empty_program}
 use Rattle.clause_variables.specs.Terms.{firsts, occurrences}
-use Rattle.clause_normal.specs.Words.{is_reserved, neck_of, same}
+use Rattle.clause_normal.specs.Words.{is_reserved, same}
 use Rattle.clause_normal.specs.declared.fault.NormKind.TheVariants as kind
 use Rattle.clause_normal.specs.declared.limits.TheConstants.{MOST_TEXT_CLAUSES}
-use Rattle.clause_normal.specs.declared.words.Neck.{Neck}
-use Rattle.clause_normal.specs.declared.words.Neck.TheVariants as neck
+use Rattle.clause_normal.proofs.PartedPlaces.{PartsPlaced, each_placed, parted_placed}
 use Rattle.clause_normal.proofs.PlaceLemmas.{query_form_placed}
 use Rattle.cti_terms.specs.declared.limits.TheConstants.{MOST_ARGUMENTS, MOST_VARIABLES}
-use Rattle.prolog_grammar.specs.Placed.{Tree, tree, Var, Int, Fun, Trees, no_trees, more_trees}
-use Rattle.prolog_grammar.specs.Places.{IsPlaced, ArePlaced}
+use Rattle.prolog_grammar.specs.Placed.{Tree, tree, Var, Int, Fun}
+use Rattle.prolog_grammar.specs.Places.{IsPlaced}
 use Rattle.prolog_reader.specs.Directive.{atom_of, parts_of}
 use Rattle.prolog_reader.specs.Names.{name_text}
 use Rattle.prolog_reader.specs.Places.{ArePlacedClauses}
@@ -67,33 +66,7 @@ module _ (size : ℕ) where
 
     -- ---- clauses
 
-    abbrev PartsPlaced : Parted → Type 0
-    PartsPlaced (no_clause k) = Unit {0}
-    PartsPlaced (fact h) = IsPlaced size h
-    PartsPlaced (rule h b) = IsPlaced size h × IsPlaced size b
-
-    named_placed : (t : Tree) (k : Neck) (ts : List Tree) → IsPlaced size t → AllByRecursion (IsPlaced size) ts → PartsPlaced (named_parts t k ts)
-    named_placed t neck.Directive [] h all = h
-    named_placed t neck.Directive (d ∷ []) h all = tt
-    named_placed t neck.Directive (d ∷ e ∷ ts) h all = h
-    named_placed t neck.Query ts h all = tt
-    named_placed t neck.Implies [] h all = h
-    named_placed t neck.Implies (a ∷ []) h all = h
-    named_placed t neck.Implies (a ∷ b ∷ []) h all = (all.0, all.1.0)
-    named_placed t neck.Implies (a ∷ b ∷ c ∷ ts) h all = h
-    named_placed t neck.Grammar ts h all = tt
-    named_placed t neck.Fact ts h all = h
-
-    each_placed : (ts : Trees) → ArePlaced size ts → AllByRecursion (IsPlaced size) (list_of ts)
-    each_placed no_trees h = tt
-    each_placed (more_trees t ts) h = (h.0, each_placed ts h.1)
-
-    parted_placed : (t : Tree) → IsPlaced size t → PartsPlaced (parted names t)
-    parted_placed (tree at (Var x)) h = h
-    parted_placed (tree at (Int n)) h = h
-    parted_placed (tree at (Fun f ts)) h = named_placed (tree at (Fun f ts)) (neck_of (name_text names f) (arity ts)) (list_of ts) h (each_placed ts h.1)
-
-    parts_placed : (t : Tree) (p : Parted) → IsPlaced size t → PartsPlaced p → FaultPlaced (parts_fault names t p)
+    parts_placed : (t : Tree) (p : Parted) → IsPlaced size t → PartsPlaced size p → FaultPlaced (parts_fault names t p)
     parts_placed t (no_clause k) h l = place_placed t h
     parts_placed t (fact a) h l =
         first_placed (head_fault names a) (variables_fault (place t) (occurrences t)) (head_placed a l) (variables_placed (place t) (occurrences t) (place_placed t h))
@@ -105,7 +78,7 @@ module _ (size : ℕ) where
     added_placed : (n : ℕ) (c : Clause) → IsPlaced size c.term → FaultPlaced (added_fault names n c)
     added_placed n c h =
         let many : Option Fault = if nat_le MOST_TEXT_CLAUSES n then Some (kind.ManyClauses, place c.term) else None in
-        first_placed (parted_fault names c) many (parts_placed c.term (parted names c.term) h (parted_placed c.term h))
+        first_placed (parted_fault names c) many (parts_placed c.term (parted names c.term) h (parted_placed size names c.term h))
         (if_placed (nat_le MOST_TEXT_CLAUSES n) (Some (kind.ManyClauses, place c.term)) None (place_placed c.term h) tt)
 
     -- ---- edits
@@ -153,7 +126,7 @@ module _ (size : ℕ) where
     term_placed : (vars : ℕ) (t : Tree) → IsPlaced size t → EditPlaced (asked_of names vars (parts_of t))
     term_placed vars (tree at (Var x)) h = tt
     term_placed vars (tree at (Int n)) h = tt
-    term_placed vars (tree at (Fun f ts)) h = of_parts vars f (list_of ts) (each_placed ts h.1)
+    term_placed vars (tree at (Fun f ts)) h = of_parts vars f (list_of ts) (each_placed size ts h.1)
 
     -- ---- what edits do
 

@@ -10,7 +10,7 @@ mod listed;
 mod places;
 mod table;
 
-pub use fact_runs::FactRuns;
-pub use listed::{Listed, Step};
+pub use fact_runs::{FactRuns, Run};
+pub use listed::{IntegerGoal, Listed};
 pub use places::Places;
-pub use table::{ClauseRow, Table};
+pub use table::{ClauseRow, ProgramTable};

@@ -8,7 +8,7 @@ use warnings::text_of;
 /// A program, its table, where its clauses stand, and its names.
 pub struct Listed {
     pub program: Program,
-    pub table: Table,
+    pub table: ProgramTable,
     pub places: Places,
     pub names: Names,
 }
@@ -25,11 +25,11 @@ impl Drop for Listed {
 }
 
 /// The predicates of integers, each with two arguments: the one that computes, and the comparisons.
-const STEPS: [&[u8]; 7] = [b"is", b"=:=", b"=\\=", b"<", b"=<", b">", b">="];
+const INTEGER_GOALS: [&[u8]; 7] = [b"is", b"=:=", b"=\\=", b"<", b"=<", b">", b">="];
 
 /// A goal of integers, which needs no clause.
 #[derive(Clone, Copy, PartialEq, Eq)]
-pub enum Step {
+pub enum IntegerGoal {
     /// One that computes an integer.
     Computing,
     /// One that computes or compares integers. No loop is found beyond it.
@@ -59,13 +59,13 @@ impl Listed {
         self.name_of(pred).starts_with(b"$or")
     }
 
-    /// Whether a call of a predicate is such a step.
-    pub fn is_step(&self, pred: u32, step: Step) -> bool {
-        let count = match step {
-            Step::Computing => 1,
-            Step::OfIntegers => STEPS.len(),
+    /// Whether a call of a predicate is such a goal.
+    pub fn is_integer_goal(&self, pred: u32, goal: IntegerGoal) -> bool {
+        let count = match goal {
+            IntegerGoal::Computing => 1,
+            IntegerGoal::OfIntegers => INTEGER_GOALS.len(),
         };
-        STEPS
+        INTEGER_GOALS
             .iter()
             .take(count)
             .any(|name| self.is_pred(pred, *name, 2))

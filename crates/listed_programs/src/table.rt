@@ -13,7 +13,7 @@ pub struct ClauseRow {
 }
 
 /// A program: its predicates, its clauses, and which component a predicate is in.
-pub struct Table {
+pub struct ProgramTable {
     pub preds: Vec<Pred>,
     /// The component of each predicate.
     component: Vec<u32>,
@@ -24,9 +24,9 @@ pub struct Table {
     recursive: Vec<bool>,
 }
 
-impl Drop for Table {
+impl Drop for ProgramTable {
     fn drop(self) {
-        let Table {
+        let ProgramTable {
             preds: _,
             component: _,
             clauses: _,
@@ -36,10 +36,10 @@ impl Drop for Table {
     }
 }
 
-impl Table {
+impl ProgramTable {
     /// The table of a program.
-    pub fn of(alloc: Global, program: &Program) -> Result<Table, AllocError> {
-        let mut table = Table {
+    pub fn of(alloc: Global, program: &Program) -> Result<ProgramTable, AllocError> {
+        let mut table = ProgramTable {
             preds: Vec::new(alloc),
             component: Vec::new(alloc),
             clauses: Vec::new(alloc),

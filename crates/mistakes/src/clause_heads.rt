@@ -2,10 +2,10 @@
 
 use mistake_sentences::{ClauseMistake, HeadMistake, Mistake, OperatorMistake};
 use prolog_tokens::TokenKind;
-use token_search::{Word, WordReader, beside, shown_name};
+use token_search::{TextToken, TokenReader, shown_name, value_of};
 
 /// That a variable has the place of a head.
-fn variable_mistake<'a>(first: Word<'a>, second: Word<'_>) -> Option<Mistake<'a>> {
+fn variable_mistake<'a>(first: TextToken<'a>, second: TextToken<'_>) -> Option<Mistake<'a>> {
     if matches!(first.kind, TokenKind::Var)
         && second.follows_head()
         && let Some(name) = shown_name(first.text)
@@ -27,7 +27,7 @@ fn named_mistake(name: &[u8], has_arguments: bool) -> Option<HeadMistake> {
 }
 
 /// What these first tokens of a clause show, whose head is none.
-fn beginning_mistake<'a>(first: Word<'a>, second: Word<'_>) -> Option<Mistake<'a>> {
+fn beginning_mistake<'a>(first: TextToken<'a>, second: TextToken<'_>) -> Option<Mistake<'a>> {
     match named_mistake(first.text, second.opens_arguments(first)) {
         Some(mistake) => Some(Mistake::Head(mistake)),
         None => variable_mistake(first, second),
@@ -35,7 +35,7 @@ fn beginning_mistake<'a>(first: Word<'a>, second: Word<'_>) -> Option<Mistake<'a
 }
 
 /// What the first tokens of a clause show, whose head is none.
-fn first_mistake<'a>(reader: &mut WordReader<'a>) -> Option<Mistake<'a>> {
+fn first_mistake<'a>(reader: &mut TokenReader<'a>) -> Option<Mistake<'a>> {
     match (reader.next(), reader.next()) {
         (Some(first), Some(second)) => beginning_mistake(first, second),
         _ => None,
@@ -50,8 +50,8 @@ const JOINTS: [(&str, HeadMistake); 3] = [
 ];
 
 /// What a token outside brackets shows before the neck, and whether a minus sign follows it at once.
-fn joint_mistake<'a>(word: Word<'_>, has_minus: bool) -> Option<Mistake<'a>> {
-    match beside(&JOINTS, word.text) {
+fn joint_mistake<'a>(word: TextToken<'_>, has_minus: bool) -> Option<Mistake<'a>> {
+    match value_of(&JOINTS, word.text) {
         Some(HeadMistake::Semicolon) if has_minus => {
             Some(Mistake::Operator(OperatorMistake::Neck(";-")))
         }
@@ -61,13 +61,13 @@ fn joint_mistake<'a>(word: Word<'_>, has_minus: bool) -> Option<Mistake<'a>> {
 }
 
 /// Whether a token ends a head: it follows a whole one, or joins goals.
-fn ends_head(word: Word<'_>) -> bool {
-    word.follows_head() || beside(&JOINTS, word.text).is_some()
+fn ends_head(word: TextToken<'_>) -> bool {
+    word.follows_head() || value_of(&JOINTS, word.text).is_some()
 }
 
 /// The first token of a clause outside brackets that joins goals, or that follows a whole head.
-fn joint_in(text: &[u8]) -> Option<Word<'_>> {
-    let mut reader = WordReader::new(text, 0);
+fn joint_in(text: &[u8]) -> Option<TextToken<'_>> {
+    let mut reader = TokenReader::new(text, 0);
     let mut depth = 0u32;
     for _ in 0..reader.most() {
         let word = reader.next()?;
@@ -90,6 +90,6 @@ fn mistake_before_neck<'a>(text: &[u8]) -> Option<Mistake<'a>> {
 pub fn head_mistake<'a>(text: &'a [u8], at: usize) -> Option<Mistake<'a>> {
     match mistake_before_neck(text.get(at..).unwrap_or(&[])) {
         Some(mistake) => Some(mistake),
-        None => first_mistake(&mut WordReader::new(text, at)),
+        None => first_mistake(&mut TokenReader::new(text, at)),
     }
 }

@@ -1,7 +1,7 @@
 //! Comments that were meant for something else.
 
 use mistake_sentences::OperatorMistake;
-use token_search::{after_last, before_byte, is_word};
+use token_search::{after_last, before_byte, is_word_byte};
 
 /// The last line of a text that is not empty.
 fn last_line(text: &[u8]) -> &[u8] {
@@ -11,7 +11,7 @@ fn last_line(text: &[u8]) -> &[u8] {
 /// Whether a text ends in a name, a variable or a number, but for layout.
 fn ends_operand(text: &[u8]) -> bool {
     match text.trim_ascii_end().last() {
-        Some(byte) => is_word(*byte),
+        Some(byte) => is_word_byte(*byte),
         None => false,
     }
 }

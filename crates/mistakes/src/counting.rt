@@ -3,13 +3,13 @@
 use mistake_sentences::{ClauseMistake, MOST_ARGUMENTS};
 use prolog_tokens::TokenKind;
 use std::alloc::{AllocError, Global};
-use token_search::{WordReader, shown_name};
+use token_search::{TokenReader, shown_name};
 
 /// The most variables of a clause.
 const MOST_VARIABLES: u64 = 48;
 
 /// How many arguments there are up to the bracket that ends them, after the one that opens them.
-fn arguments_in(reader: &mut WordReader<'_>) -> Option<u64> {
+fn arguments_in(reader: &mut TokenReader<'_>) -> Option<u64> {
     let mut depth = 0u32;
     let mut count = 1u64;
     for _ in 0..reader.most() {
@@ -26,7 +26,7 @@ fn arguments_in(reader: &mut WordReader<'_>) -> Option<u64> {
 }
 
 /// The name of an atom, up to the bracket that opens its arguments.
-fn name_of_atom<'a>(reader: &mut WordReader<'a>) -> Option<&'a [u8]> {
+fn name_of_atom<'a>(reader: &mut TokenReader<'a>) -> Option<&'a [u8]> {
     if let Some(name) = reader.next()
         && name.is_name()
         && let Some(open) = reader.next()
@@ -40,7 +40,7 @@ fn name_of_atom<'a>(reader: &mut WordReader<'a>) -> Option<&'a [u8]> {
 
 /// How many arguments the atom at a place of a text has, where these are more than 12.
 pub fn argument_mistake<'a>(text: &'a [u8], at: usize) -> Option<ClauseMistake<'a>> {
-    let mut reader = WordReader::new(text, at);
+    let mut reader = TokenReader::new(text, at);
     if let Some(name) = name_of_atom(&mut reader)
         && let Some(count) = arguments_in(&mut reader)
         && count > MOST_ARGUMENTS as u64
@@ -57,7 +57,7 @@ fn push_variables<'a>(
     at: usize,
     variables: &mut Vec<&'a [u8]>,
 ) -> Result<u64, AllocError> {
-    let mut reader = WordReader::new(text, at);
+    let mut reader = TokenReader::new(text, at);
     let mut nameless = 0u64;
     for _ in 0..reader.most() {
         let Some(word) = reader.next() else {

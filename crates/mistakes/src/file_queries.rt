@@ -1,11 +1,11 @@
 //! Queries that stand in a program's file.
 
 use mistake_sentences::{FileMistake, ShellWord};
-use token_search::{WordReader, shown_name};
+use token_search::{TokenReader, shown_name};
 
 /// Where the clause at the beginning of a text has its dot.
 fn end_of(text: &[u8]) -> Option<usize> {
-    let mut reader = WordReader::new(text, 0);
+    let mut reader = TokenReader::new(text, 0);
     for _ in 0..reader.most() {
         let word = reader.next()?;
         if word.is_end() {

@@ -1,7 +1,7 @@
 //! Operators of other languages.
 
 use mistake_sentences::{GoalMistake, Mistake, OperatorMistake};
-use token_search::beside;
+use token_search::value_of;
 
 /// Words and symbols that other languages have between a head and its conditions.
 const NECKS: [&str; 8] = ["=>", "<=", "<--", "<==", ":--", "?-", "if", "when"];
@@ -40,7 +40,7 @@ pub(crate) fn foreign_mistake<'a>(sign: &'a str, is_head: bool) -> Option<Mistak
         }
         return None;
     }
-    match beside(&JOINTS, sign.as_bytes()) {
+    match value_of(&JOINTS, sign.as_bytes()) {
         Some(own) => Some(Mistake::Operator(OperatorMistake::Foreign(sign, own))),
         None => unread_mistake(sign),
     }

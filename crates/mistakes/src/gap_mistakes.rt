@@ -4,7 +4,7 @@ use crate::foreign_operators::foreign_mistake;
 use crate::infix_operators::{MOST_SYMBOLS, infix_mistake, is_infix};
 use mistake_sentences::{ClauseMistake, GoalMistake, Mistake, OperatorMistake};
 use token_search::{
-    Bracket, Gap, WordReader, beginning_among, first_name, first_symbols, is_word, last_name,
+    Bracket, Gap, TokenReader, beginning_among, first_name, first_symbols, is_word_byte, last_name,
     last_word, may_declare, shown_name,
 };
 
@@ -148,7 +148,7 @@ fn word_mistake<'a>(gap: Gap<'a>) -> Option<Mistake<'a>> {
         }
     }
     match gap.after.first() {
-        Some(next) if is_word(*next) => second_word(gap),
+        Some(next) if is_word_byte(*next) => second_word(gap),
         _ => None,
     }
 }
@@ -164,7 +164,7 @@ fn name_before_space(text: &[u8]) -> Option<&[u8]> {
 
 /// Whether a bracket that is open at the front of a text is closed before the clause ends.
 pub fn is_closed_later(text: &[u8]) -> bool {
-    let mut reader = WordReader::new(text, 0);
+    let mut reader = TokenReader::new(text, 0);
     let mut depth = 0u32;
     for _ in 0..reader.most() {
         let Some(word) = reader.next() else {

@@ -1,13 +1,13 @@
 //! What stands from the first token of a goal on.
 
 use prolog_tokens::TokenKind;
-use token_search::{Look, Word, WordReader, shown_name};
+use token_search::{Look, TextToken, TokenReader, shown_name};
 
 /// What was seen from the first token of a goal on, outside its brackets.
 #[derive(Clone, Copy)]
 pub(crate) struct GoalLook<'a> {
-    pub(crate) first: Option<Word<'a>>,
-    pub(crate) second: Option<Word<'a>>,
+    pub(crate) first: Option<TextToken<'a>>,
+    pub(crate) second: Option<TextToken<'a>>,
     depth: u32,
     /// Whether no comma and no branch has come yet.
     is_first_goal: bool,
@@ -28,7 +28,7 @@ pub(crate) struct GoalLook<'a> {
 const TESTS: [&str; 7] = ["\\=", "==", "\\==", "@<", "@=<", "@>", "@>="];
 
 impl<'a> Look<'a> for GoalLook<'a> {
-    fn take(&mut self, word: Word<'a>) -> bool {
+    fn take(&mut self, word: TextToken<'a>) -> bool {
         // The parentheses around a goal begin it.
         if self.first.is_none() && word.kind == TokenKind::Paren {
             return true;
@@ -59,7 +59,7 @@ impl<'a> GoalLook<'a> {
             has_univ: false,
             has_neck: false,
         };
-        WordReader::new(text, at).show_to(&mut look);
+        TokenReader::new(text, at).show_to(&mut look);
         look
     }
 
@@ -92,7 +92,7 @@ impl<'a> GoalLook<'a> {
     }
 
     /// Takes a token outside brackets.
-    fn take_outside(&mut self, word: Word<'a>) -> bool {
+    fn take_outside(&mut self, word: TextToken<'a>) -> bool {
         match word.kind {
             TokenKind::End => return false,
             TokenKind::Comma => self.is_first_goal = false,

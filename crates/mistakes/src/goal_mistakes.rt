@@ -3,7 +3,7 @@
 use crate::goal_look::GoalLook;
 use mistake_sentences::{GoalMistake, Mistake, QueryMistake};
 use prolog_tokens::TokenKind;
-use token_search::beside;
+use token_search::value_of;
 
 /// Goals with arguments that are not read, by name.
 const CALLS: [(&str, GoalMistake); 50] = [
@@ -72,9 +72,9 @@ fn named_mistake(name: &[u8], has_arguments: bool) -> Option<GoalMistake> {
     if name == b"\\+".as_slice() {
         Some(GoalMistake::Negation)
     } else if has_arguments {
-        beside(&CALLS, name)
+        value_of(&CALLS, name)
     } else {
-        beside(&ATOMS, name)
+        value_of(&ATOMS, name)
     }
 }
 

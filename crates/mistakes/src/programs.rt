@@ -2,12 +2,12 @@
 
 use mistake_sentences::FileMistake;
 use prolog_tokens::TokenKind;
-use token_search::{Look, Word, WordReader, before_byte, shown_name};
+use token_search::{Look, TextToken, TokenReader, before_byte, shown_name};
 
 /// The head of a program's first clause, as far as it was read.
 #[derive(Clone, Copy)]
 struct HeadLook<'a> {
-    name: Option<Word<'a>>,
+    name: Option<TextToken<'a>>,
     arity: u64,
     depth: u32,
     /// Whether a directive is passed over.
@@ -17,7 +17,7 @@ struct HeadLook<'a> {
 }
 
 impl<'a> Look<'a> for HeadLook<'a> {
-    fn take(&mut self, word: Word<'a>) -> bool {
+    fn take(&mut self, word: TextToken<'a>) -> bool {
         if self.is_directive {
             self.is_directive = !word.is_end();
             return true;
@@ -38,7 +38,7 @@ impl<'a> Look<'a> for HeadLook<'a> {
 
 impl<'a> HeadLook<'a> {
     /// Takes a token after the name.
-    fn take_part(&mut self, name: Word<'a>, word: Word<'a>) -> bool {
+    fn take_part(&mut self, name: TextToken<'a>, word: TextToken<'a>) -> bool {
         if self.depth == 0 {
             return self.take_outside(name, word);
         }
@@ -50,7 +50,7 @@ impl<'a> HeadLook<'a> {
     }
 
     /// Takes a token after the name and outside brackets.
-    fn take_outside(&mut self, name: Word<'a>, word: Word<'a>) -> bool {
+    fn take_outside(&mut self, name: TextToken<'a>, word: TextToken<'a>) -> bool {
         if word.opens_arguments(name) {
             self.depth = 1;
             self.arity = 1;
@@ -70,7 +70,7 @@ fn head_of(text: &[u8]) -> HeadLook<'_> {
         is_directive: false,
         is_read: false,
     };
-    let mut reader = WordReader::new(text, 0);
+    let mut reader = TokenReader::new(text, 0);
     reader.show_to(&mut look);
     look
 }

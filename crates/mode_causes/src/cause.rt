@@ -1,7 +1,7 @@
 //! What a certificate's facts say of components.
 
 use certificate::{CertNorm, Certificate, Fact, PredText};
-use listed_programs::{FactRuns, Listed, Table};
+use listed_programs::{FactRuns, Listed, ProgramTable};
 use std::alloc::{AllocError, Global};
 
 /// What the facts say of a component.
@@ -131,14 +131,14 @@ impl Causes {
     }
 
     /// Notes what is said of the component of a clause's head.
-    pub fn note_clause(&mut self, table: &Table, clause: u32, cause: Cause) {
+    pub fn note_clause(&mut self, table: &ProgramTable, clause: u32, cause: Cause) {
         if let Some(row) = table.clause(clause) {
             self.note_found(table, Some(row.head), cause);
         }
     }
 
     /// Notes what is said of the component of a predicate, where nothing was said before.
-    fn note_found(&mut self, table: &Table, pred: Option<u32>, cause: Cause) {
+    fn note_found(&mut self, table: &ProgramTable, pred: Option<u32>, cause: Cause) {
         let Some(pred) = pred else {
             return;
         };
@@ -150,7 +150,7 @@ impl Causes {
     }
 
     /// Notes why not all measures of the component of a predicate were looked for, where nothing was said before.
-    pub fn note_limit(&mut self, table: &Table, pred: Option<u32>, limit: Limit) {
+    pub fn note_limit(&mut self, table: &ProgramTable, pred: Option<u32>, limit: Limit) {
         let Some(pred) = pred else {
             return;
         };
@@ -186,7 +186,7 @@ impl Causes {
     }
 
     /// Whether each predicate has its modes.
-    pub fn are_of(&self, table: &Table) -> bool {
+    pub fn are_of(&self, table: &ProgramTable) -> bool {
         self.terminates.len() == table.preds.len()
     }
 

@@ -5,7 +5,7 @@ use crate::culprit::Culprit;
 use crate::lacking::{CallAt, Found};
 use crate::sizing::Sizing;
 use certificate::Fact;
-use listed_programs::{ClauseRow, Listed, Step};
+use listed_programs::{ClauseRow, IntegerGoal, Listed};
 use sequences::Sequence;
 use std::alloc::{AllocError, Global};
 
@@ -222,28 +222,28 @@ impl<'p, 'f> View<'p, '_, 'f> {
         })
     }
 
-    /// Whether a clause has such a step.
-    fn has_step(self, clause: u32, step: Step) -> bool {
+    /// Whether a clause has such a goal.
+    fn has_integer_goal(self, clause: u32, goal: IntegerGoal) -> bool {
         match self.listed.table.clause(clause) {
             Some(row) => {
                 let calls = self.listed.table.calls_of(row);
                 calls
                     .iter()
-                    .any(|callee| self.listed.is_step(*callee, step))
+                    .any(|callee| self.listed.is_integer_goal(*callee, goal))
             }
             None => false,
         }
     }
 
-    /// Whether the clause of one of these points, from this fact on, has such a step.
-    fn has_step_at(self, start: usize, points: u64, step: Step) -> bool {
+    /// Whether the clause of one of these points, from this fact on, has such a goal.
+    fn has_integer_goal_at(self, start: usize, points: u64, goal: IntegerGoal) -> bool {
         let mut left = points;
         for fact in self.facts.get(start..).unwrap_or(&[]) {
             if left == 0 {
                 return false;
             }
             if let Fact::Point { clause, .. } = fact {
-                if self.has_step(*clause, step) {
+                if self.has_integer_goal(*clause, goal) {
                     return true;
                 }
                 left = left.saturating_sub(1);
@@ -252,15 +252,16 @@ impl<'p, 'f> View<'p, '_, 'f> {
         false
     }
 
-    /// Whether the clause of one of the calls that a case speaks of has such a step.
-    pub fn is_behind(self, why: Why, step: Step) -> bool {
+    /// Whether the clause of one of the calls that a case speaks of has such a goal.
+    pub fn is_behind(self, why: Why, goal: IntegerGoal) -> bool {
         match why {
             Why::OneCall(culprit) => {
-                self.has_step_at(culprit.head, 1, step) || self.has_step_at(culprit.call, 1, step)
+                self.has_integer_goal_at(culprit.head, 1, goal)
+                    || self.has_integer_goal_at(culprit.call, 1, goal)
             }
             Why::Calls { start, points }
             | Why::Stuck { start, points }
-            | Why::NoList { start, points } => self.has_step_at(start, points, step),
+            | Why::NoList { start, points } => self.has_integer_goal_at(start, points, goal),
             _ => false,
         }
     }

@@ -2,7 +2,7 @@
 
 use crate::showing::Source;
 use certificate::CertNorm;
-use listed_programs::Step;
+use listed_programs::IntegerGoal;
 use mode_causes::{View, Why};
 
 /// What is said where a counter does not count.
@@ -48,7 +48,7 @@ pub(crate) fn smaller_hint(
     view: View<'_, '_, '_>,
     why: Why,
 ) -> &'static str {
-    if view.is_behind(why, Step::Computing) {
+    if view.is_behind(why, IntegerGoal::Computing) {
         return COUNTER;
     }
     match why {

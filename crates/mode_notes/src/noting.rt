@@ -4,7 +4,7 @@ use crate::hints::smaller_hint;
 use crate::lacks_shown::{lack_advice, lack_shown, need_shown, unsure_shown};
 use crate::note::Note;
 use crate::showing::{Source, calls_shown};
-use listed_programs::Step;
+use listed_programs::IntegerGoal;
 use messages::{push_excerpt, push_help, push_shown};
 use mistake_sentences::ShellWord;
 use mode_causes::{Case, Causes, View, Why};
@@ -66,7 +66,7 @@ fn advice_of(
 ) -> Result<String, AllocError> {
     match why {
         Why::OneCall(_) | Why::Calls { .. } | Why::Stuck { .. } | Why::NoList { .. }
-            if !view.is_behind(why, Step::OfIntegers) => {
+            if !view.is_behind(why, IntegerGoal::OfIntegers) => {
             loop_advice(alloc, source, blamed_pred(view, pred, why), advice)
         }
         Why::Lacks(call) => lack_advice(alloc, source, view, call, advice),

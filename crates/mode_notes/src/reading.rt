@@ -6,7 +6,7 @@ use crate::showing::Source;
 use certificate::Certificate;
 use clause_normal::normal;
 use cti_terms::Names;
-use listed_programs::{Listed, Places, Table};
+use listed_programs::{Listed, Places, ProgramTable};
 use mode_causes::{Causes, View};
 use prolog_reader::read_text;
 use std::alloc::{AllocError, Global};
@@ -26,7 +26,7 @@ pub(crate) fn listed_program(alloc: Global, text: &[u8]) -> Result<Option<Listed
     let Ok(program) = normal(alloc, &read, &mut names) else {
         return Ok(None);
     };
-    let table = Table::of(alloc, &program)?;
+    let table = ProgramTable::of(alloc, &program)?;
     let places = Places::of(alloc, &names, read.clauses.as_slice())?;
     Ok(Some(Listed {
         program,

@@ -19,7 +19,7 @@ use std::alloc::AllocError;
 
 impl Parser<'_> {
     /// A token after a name.
-    pub fn after_name(
+    pub(crate) fn after_name(
         &mut self,
         read: NameRead,
         token: &Symbol,
@@ -161,7 +161,7 @@ impl Parser<'_> {
     }
 
     /// A token after `[]` or `{}`.
-    pub fn after_brackets(
+    pub(crate) fn after_brackets(
         &mut self,
         bound: u32,
         head: Head,
@@ -192,7 +192,7 @@ impl Parser<'_> {
     }
 
     /// A token after an opening bracket.
-    pub fn after_open_list(
+    pub(crate) fn after_open_list(
         &mut self,
         bound: u32,
         at: u32,
@@ -217,7 +217,7 @@ impl Parser<'_> {
     }
 
     /// A token after an opening brace.
-    pub fn after_open_curly(
+    pub(crate) fn after_open_curly(
         &mut self,
         bound: u32,
         at: u32,

@@ -52,7 +52,7 @@ fn applied(alloc: Global, operator: Operator, part: Part) -> Result<Part, AllocE
 impl Parser<'_> {
     /// A token after a term: an operator that is taken, or else the term is at its end.
     #[tactic(auto, using(crate::proofs::WalkLemmas::have_taken, crate::proofs::WalkLemmas::have_end, crate::proofs::WalkLemmas::have_operator, crate::proofs::WalkLemmas::have_open))]
-    pub fn after_term(
+    pub(crate) fn after_term(
         &mut self,
         bound: u32,
         part: Part,

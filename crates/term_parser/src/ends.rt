@@ -15,7 +15,7 @@ use std::alloc::AllocError;
 
 impl Parser<'_> {
     /// A term inside an opening token, and the token after it.
-    pub fn end(
+    pub(crate) fn end(
         &mut self,
         bound: u32,
         opening: Open,

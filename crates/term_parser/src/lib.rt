@@ -15,9 +15,7 @@ mod part;
 mod stack;
 mod state;
 
-pub use frame::{Frame, Head, Open, Operator};
 pub use limits::MOST_OPENERS;
 pub use parser::Parser;
 pub use part::Part;
-pub use stack::Stack;
-pub use state::{NameRead, Refusal, State, Step};
+pub use state::{Refusal, State, Step};

@@ -16,7 +16,7 @@ use std::alloc::AllocError;
 
 impl Parser<'_> {
     /// A token where an operand is expected.
-    pub fn operand(&mut self, bound: u32, token: &Symbol) -> Result<Step, AllocError>
+    pub(crate) fn operand(&mut self, bound: u32, token: &Symbol) -> Result<Step, AllocError>
         requires under { IsUnder (most_openers + 1) self.old }
         ensures { IfOk result (Leads self.old self.new (operand_move self.old bound token.now)) }
     {
@@ -85,7 +85,7 @@ impl Parser<'_> {
     }
 
     /// Opens a term of the given bound: an operand is expected inside it.
-    pub fn open(&mut self, bound: u32, opening: Open) -> Result<Step, AllocError>
+    pub(crate) fn open(&mut self, bound: u32, opening: Open) -> Result<Step, AllocError>
         requires inside { IsInside (most_openers + 1) (open_of opening) self.old }
         ensures { IfOk result (Leads self.old self.new
             (open_move self.old bound (open_of opening))) }

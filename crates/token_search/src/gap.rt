@@ -22,7 +22,7 @@ impl Bracket {
     }
 
     /// Whether commas separate terms in it.
-    pub fn has_terms(self) -> bool {
+    fn has_terms(self) -> bool {
         matches!(self, Bracket::Arguments | Bracket::List)
     }
 }
@@ -53,18 +53,20 @@ impl Gap<'_> {
 }
 
 /// Whether a byte is one of the symbols that operators consist of.
-pub fn is_symbol(byte: u8) -> bool {
+fn is_symbol(byte: u8) -> bool {
     b"#$&*+-./:<=>?@^~\\".contains(&byte)
 }
 
 /// Whether a byte can stand within a name.
-pub fn is_word(byte: u8) -> bool {
+pub fn is_word_byte(byte: u8) -> bool {
     byte.is_ascii_alphanumeric() || byte == b'_'
 }
 
 /// The bytes of a name or variable that a text ends in.
 pub fn last_word_bytes(text: &[u8]) -> &[u8] {
-    text.rsplit(|byte| !is_word(*byte)).next().unwrap_or(text)
+    text.rsplit(|byte| !is_word_byte(*byte))
+        .next()
+        .unwrap_or(text)
 }
 
 /// The name or variable that a text ends in, which is empty where there is none.
@@ -89,7 +91,7 @@ pub fn last_name(text: &[u8]) -> Option<&[u8]> {
 /// The name at the front of a text, which begins with a small letter.
 pub fn first_name(text: &[u8]) -> Option<&[u8]> {
     match text {
-        [b'a'..=b'z', ..] => text.split(|byte| !is_word(*byte)).next(),
+        [b'a'..=b'z', ..] => text.split(|byte| !is_word_byte(*byte)).next(),
         _ => None,
     }
 }

@@ -17,7 +17,7 @@ pub fn has_part(text: &[u8], part: &[u8]) -> bool {
 }
 
 /// What stands beside a name in a table.
-pub fn beside<T: Copy>(rows: &[(&'static str, T)], name: &[u8]) -> Option<T> {
+pub fn value_of<T: Copy>(rows: &[(&'static str, T)], name: &[u8]) -> Option<T> {
     for (other, value) in rows {
         if other.as_bytes() == name {
             return Some(*value);

@@ -4,7 +4,7 @@ use thiserror::Error;
 
 /// A warning as it is said. Predicates stand in it as `append/3`.
 #[derive(Clone, Copy, Debug, Error)]
-pub enum Sentence<'a> {
+pub(crate) enum WarningSentence<'a> {
     #[error("this is a certificate, and it is read as a program of facts")]
     Certificate,
     #[error("`{pred}` is called and has no clause: here it always fails, so the modes of `{caller}` and its callers say nothing about a program that defines it")]

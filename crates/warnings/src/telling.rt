@@ -73,17 +73,17 @@ fn sentence_of<'a>(
     other: &'a str,
     variables: &'a str,
     count: usize,
-) -> Sentence<'a> {
+) -> WarningSentence<'a> {
     match warning {
-        Warning::NoClause { caller: None, .. } => Sentence::NoClauseInQuery(pred),
-        Warning::NoClause { .. } => Sentence::NoClause {
+        Warning::NoClause { caller: None, .. } => WarningSentence::NoClauseInQuery(pred),
+        Warning::NoClause { .. } => WarningSentence::NoClause {
             pred,
             caller: other,
         },
-        Warning::OtherArity { .. } => Sentence::OtherArity { pred, other },
-        Warning::NoValue { .. } => Sentence::NoValue(pred),
-        Warning::Singletons { .. } if count == 1 => Sentence::Singleton(variables),
-        Warning::Singletons { .. } => Sentence::Singletons(variables),
+        Warning::OtherArity { .. } => WarningSentence::OtherArity { pred, other },
+        Warning::NoValue { .. } => WarningSentence::NoValue(pred),
+        Warning::Singletons { .. } if count == 1 => WarningSentence::Singleton(variables),
+        Warning::Singletons { .. } => WarningSentence::Singletons(variables),
     }
 }
 
@@ -171,7 +171,7 @@ fn push_head(
     message: &mut Vec<u8>,
     text: &[u8],
     place: Place<'_>,
-    sentence: Sentence<'_>,
+    sentence: WarningSentence<'_>,
 ) -> Result<(), AllocError> {
     let head = format!(in alloc; "{place}: warning: {sentence}")?;
     push_shown(message, head.as_bytes())?;
@@ -183,7 +183,13 @@ fn push_head(
 fn certificate_warning(alloc: Global, name: &str, text: &[u8]) -> Result<Vec<u8>, AllocError> {
     let mut message = Vec::new(alloc);
     let place = Place::of(name, text, 0);
-    push_head(alloc, &mut message, text, place, Sentence::Certificate)?;
+    push_head(
+        alloc,
+        &mut message,
+        text,
+        place,
+        WarningSentence::Certificate,
+    )?;
     push_help(&mut message, CERTIFICATE_ADVICE)?;
     Ok(message)
 }

@@ -44,7 +44,7 @@ impl Asked {
     }
 
     /// What an option of a command asks.
-    pub fn of_option(word: &str) -> Option<Asked> {
+    pub(crate) fn of_option(word: &str) -> Option<Asked> {
         match word {
             "--help" | "-h" => Some(Asked::Help),
             _ => None,

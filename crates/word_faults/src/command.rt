@@ -28,7 +28,7 @@ impl Command {
     }
 
     /// Its name.
-    pub fn name(self) -> &'static str {
+    pub(crate) fn name(self) -> &'static str {
         match self {
             Command::Infer => "infer",
             Command::Check => "check",
@@ -41,7 +41,7 @@ impl Command {
     }
 
     /// What its first word is, in the usage.
-    pub fn first(self) -> &'static str {
+    pub(crate) fn first(self) -> &'static str {
         match self {
             Command::Gen => "N",
             _ => "FILE",

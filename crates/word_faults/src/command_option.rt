@@ -25,7 +25,7 @@ impl CommandOption {
     }
 
     /// Its name.
-    pub fn name(self) -> &'static str {
+    pub(crate) fn name(self) -> &'static str {
         match self {
             CommandOption::Steps => "--steps",
             CommandOption::Norm => "--norm",
@@ -34,7 +34,7 @@ impl CommandOption {
     }
 
     /// What its value is, as it is asked for.
-    pub fn value(self) -> &'static str {
+    pub(crate) fn value(self) -> &'static str {
         match self {
             CommandOption::Steps | CommandOption::Depth => "a number",
             CommandOption::Norm => "term or list",
@@ -60,7 +60,7 @@ impl CommandOption {
     }
 
     /// The value in a word that has the option's name and value, as `--steps=5` has.
-    pub fn value_in(self, word: &str) -> Option<&str> {
+    pub(crate) fn value_in(self, word: &str) -> Option<&str> {
         word.strip_prefix(self.name())?.strip_prefix('=')
     }
 }

@@ -2,7 +2,7 @@ use Rattle.std.proofs.Common.{◌<◌, ◌∙◌, ◌+◌, ℕ, get_or, length, 
 use Rattle.std.proofs.lemmas.List.{get_or-set_same, get_or-set_other, length-set}
 use Rattle.clause_variables.proofs.ListLemmas.{all_at}
 use Rattle.clause_variables.proofs.OccurringLemmas.{ends_step}
-use Rattle.clause_variables.proofs.places.Places.note_ends.Goals as goal
+use Rattle.clause_variables.proofs.occurrences.Occurrences.note_ends.Goals as goal
 
 pub places-preserved : goal.places-preserved
 places-preserved c =

@@ -7,25 +7,25 @@ ghost use Rattle.clause_variables.specs.Occurring.{AreEnds, AreFirsts, AreNoted,
 use std::alloc::{AllocError, Global};
 
 /// Where each variable of a list occurs first, and the place after its last occurrence.
-pub struct Places {
+pub struct Occurrences {
     /// Where each one occurs first.
     pub firsts: Vec<usize>,
     /// The place after the last occurrence of each one.
     pub ends: Vec<usize>,
 }
 
-impl Drop for Places {
+impl Drop for Occurrences {
     fn drop(self) {
-        let Places { firsts: _, ends: _ } = self;
+        let Occurrences { firsts: _, ends: _ } = self;
     }
 }
 
-impl Places {
+impl Occurrences {
     /// Room for the given number of variables.
-    pub fn new(alloc: Global, vars: u32) -> Result<Places, AllocError>
+    pub fn new(alloc: Global, vars: u32) -> Result<Occurrences, AllocError>
         ensures { IfOk result (HasSize vars) }
     {
-        Ok(Places {
+        Ok(Occurrences {
             firsts: vec![in alloc; 0; vars as usize]?,
             ends: vec![in alloc; 0; vars as usize]?,
         })

@@ -1,6 +1,6 @@
 use Rattle.std.proofs.Common.{◌≡◌, ◌≤◌, ◌-◌, length}
 use Rattle.clause_variables.specs.Occurring.{AreEnds}
-use Rattle.clause_variables.proofs.places.Places.note_ends.Given as goal
+use Rattle.clause_variables.proofs.occurrences.Occurrences.note_ends.Given as goal
 
 abbrev pub invariant-places : goal.invariant-places
 invariant-places l = record {

@@ -1,6 +1,6 @@
 use Rattle.std.proofs.Common.{◌≡◌, ◌≤◌, length}
 use Rattle.clause_variables.specs.Occurring.{AreFirsts}
-use Rattle.clause_variables.proofs.places.Places.note_firsts.Given as goal
+use Rattle.clause_variables.proofs.occurrences.Occurrences.note_firsts.Given as goal
 
 abbrev pub invariant-places : goal.invariant-places
 invariant-places l = record {

@@ -12,7 +12,7 @@ const MOST_SHOWN: usize = 60;
 
 /// A token, its text and its place.
 #[derive(Clone, Copy)]
-pub struct Word<'a> {
+pub struct TextToken<'a> {
     pub kind: TokenKind,
     pub text: &'a [u8],
     /// Where it begins, in bytes from where its reader started.
@@ -24,12 +24,12 @@ pub struct Word<'a> {
 /// What looks at tokens one after the other.
 pub trait Look<'a> {
     /// Takes the next token, and answers whether there is more to look at.
-    fn take(&mut self, word: Word<'a>) -> bool;
+    fn take(&mut self, word: TextToken<'a>) -> bool;
 }
 
 /// Gives the tokens of a text one after the other.
 #[derive(Drop)]
-pub struct WordReader<'a> {
+pub struct TokenReader<'a> {
     text: &'a [u8],
     lexer: Lexer<'a>,
 }
@@ -41,23 +41,23 @@ fn bounded(text: &[u8]) -> &[u8]
     if text.len() > MOST_BYTES { &[] } else { text }
 }
 
-impl<'a> WordReader<'a> {
+impl<'a> TokenReader<'a> {
     /// Starts at a byte of a text. There are no tokens where more than 16,777,216 bytes are left.
-    pub fn new(text: &'a [u8], at: usize) -> WordReader<'a> {
+    pub fn new(text: &'a [u8], at: usize) -> TokenReader<'a> {
         let text = bounded(text.get(at..).unwrap_or(&[]));
-        WordReader {
+        TokenReader {
             text,
             lexer: Lexer::new(text),
         }
     }
 
     /// The next token, or none where the text ends or has a lexical fault.
-    pub fn next(&mut self) -> Option<Word<'a>> {
+    pub fn next(&mut self) -> Option<TextToken<'a>> {
         let Ok(Some(token)) = self.lexer.next() else {
             return None;
         };
         let text = self.text.get(token.start as usize..token.end as usize);
-        Some(Word {
+        Some(TextToken {
             kind: token.kind,
             text: text.unwrap_or(&[]),
             start: token.start,
@@ -81,7 +81,7 @@ impl<'a> WordReader<'a> {
     }
 }
 
-impl<'a> Word<'a> {
+impl<'a> TextToken<'a> {
     /// Whether it opens a bracket.
     pub fn opens(self) -> bool {
         matches!(
@@ -130,7 +130,7 @@ impl<'a> Word<'a> {
     }
 
     /// Whether it opens the arguments of the word before it.
-    pub fn opens_arguments(self, before: Word<'_>) -> bool {
+    pub fn opens_arguments(self, before: TextToken<'_>) -> bool {
         self.kind == TokenKind::Paren && self.start == before.end
     }
 }

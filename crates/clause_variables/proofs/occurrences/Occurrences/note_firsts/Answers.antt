@@ -3,7 +3,7 @@ use Rattle.std.proofs.lemmas.List.{get_or-set_same, get_or-set_other, length-set
 use Rattle.clause_variables.specs.Occurring.{AreFirsts}
 use Rattle.clause_variables.proofs.ListLemmas.{all_at}
 use Rattle.clause_variables.proofs.OccurringLemmas.{firsts_step}
-use Rattle.clause_variables.proofs.places.Places.note_firsts.Goals as goal
+use Rattle.clause_variables.proofs.occurrences.Occurrences.note_firsts.Goals as goal
 
 pub places-preserved : goal.places-preserved
 places-preserved c =
