@@ -1,7 +1,7 @@
 //! A program as it is looked at.
 
 use crate::places::Places;
-use crate::table::Table;
+use crate::table::ProgramTable;
 use cti_terms::{Clause, Names, Program};
 use warnings::text_of;
 

@@ -19,5 +19,4 @@ mod telling;
 mod warning;
 
 pub use parts::{body_of, head_of, indicator_of, text_of};
-pub use sentence::Sentence;
 pub use telling::{program_warnings, query_warnings, warn};

@@ -4,7 +4,7 @@ use crate::finding::{defined_in, query_warnings_in, warnings_in};
 use crate::findings::Findings;
 use crate::libraries::library_of;
 use crate::parts::{indicator_of, text_of};
-use crate::sentence::Sentence;
+use crate::sentence::WarningSentence;
 use crate::warning::Warning;
 use cti_terms::{Name, Names, Pred};
 use messages::{Ending, Place, push_excerpt, push_help, push_shown};
