@@ -19,7 +19,7 @@ mod writing;
 pub use fields::{counted, numbers};
 pub use ground_rows::WrittenGrounds;
 pub use modes::WrittenModes;
-pub use preconditions::WrittenPres;
+pub use preconditions::WrittenPreconditions;
 pub use shared_facts::FromShared;
 pub use size_rows::{WrittenProofs, WrittenSizes};
 pub use writer::{Writer, append, write_each};

@@ -16,12 +16,12 @@ use std::alloc::{AllocError, Global};
 
 /// The rows of a predicate's precondition for a mapping, or for a list.
 #[derive(Drop)]
-struct PreOf<'a> {
+struct PreconditionOf<'a> {
     pred: Named<'a>,
     mapping: u32,
 }
 
-impl<F: FromShared> Writer<F> for PreOf<'_> {
+impl<F: FromShared> Writer<F> for PreconditionOf<'_> {
     type Item = Cube;
 
     ghost facts = { λ w i cube. F.pre_fact (named w.pred) w.mapping (suc i) (map cell_of cube) ∷ [] };
@@ -41,11 +41,11 @@ impl<F: FromShared> Writer<F> for PreOf<'_> {
 
 /// The preconditions of a predicate.
 #[derive(Drop)]
-struct PresOf<'a> {
+struct PreconditionsOf<'a> {
     pred: Named<'a>,
 }
 
-impl<F: FromShared> Writer<F> for PresOf<'_> {
+impl<F: FromShared> Writer<F> for PreconditionsOf<'_> {
     type Item = Sequence<Cube>;
 
     ghost facts = { λ w m cs. lines_from 0 (λ i cube. F.pre_fact (named w.pred) (suc m) (suc i)
@@ -59,7 +59,7 @@ impl<F: FromShared> Writer<F> for PresOf<'_> {
         out: &mut Sequence<F>,
     ) -> Result<(), AllocError> {
         let mapping = counted(number)?;
-        let rows = PreOf {
+        let rows = PreconditionOf {
             pred: self.pred,
             mapping,
         };
@@ -69,12 +69,12 @@ impl<F: FromShared> Writer<F> for PresOf<'_> {
 
 /// The preconditions of predicates.
 #[derive(Drop)]
-pub struct WrittenPres<'a> {
+pub struct WrittenPreconditions<'a> {
     pub p: &'a Program,
     pub names: &'a Names,
 }
 
-impl<F: FromShared> Writer<F> for WrittenPres<'_> {
+impl<F: FromShared> Writer<F> for WrittenPreconditions<'_> {
     type Item = Sequence<Sequence<Cube>>;
 
     ghost facts = { λ w a ms. facts_from 0 (λ m cs. lines_from 0 (λ i cube. F.pre_fact
@@ -88,6 +88,6 @@ impl<F: FromShared> Writer<F> for WrittenPres<'_> {
         out: &mut Sequence<F>,
     ) -> Result<(), AllocError> {
         let pred = Named::new(self.p, self.names, number);
-        write_each(alloc, &PresOf { pred }, item.as_slice(), out)
+        write_each(alloc, &PreconditionsOf { pred }, item.as_slice(), out)
     }
 }

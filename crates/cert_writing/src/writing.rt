@@ -7,7 +7,7 @@ ghost use Rattle.cert_writing.specs.Written.{set_facts, mapping_facts};
 use crate::ground_rows::WrittenGrounds;
 use crate::mappings::{Falls, Levels};
 use crate::modes::WrittenModes;
-use crate::preconditions::WrittenPres;
+use crate::preconditions::WrittenPreconditions;
 use crate::refutations::Refutations;
 use crate::size_rows::{WrittenProofs, WrittenSizes};
 use crate::writer::{append, write_each};
@@ -75,7 +75,7 @@ fn write_mappings(
     write_each(alloc, &Falls {}, parts.falls.as_slice(), out)?;
     write_each(
         alloc,
-        &WrittenPres { p, names },
+        &WrittenPreconditions { p, names },
         parts.preconditions.as_slice(),
         out,
     )?;

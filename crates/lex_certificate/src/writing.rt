@@ -9,7 +9,8 @@ use crate::list_certificate::LexCertificate;
 use crate::parts::LexParts;
 use crate::written_lists::{WrittenDrops, WrittenLists, WrittenSets};
 use cert_writing::{
-    WrittenGrounds, WrittenModes, WrittenPres, WrittenProofs, WrittenSizes, append, write_each,
+    WrittenGrounds, WrittenModes, WrittenPreconditions, WrittenProofs, WrittenSizes, append,
+    write_each,
 };
 use cti_terms::{Names, Program};
 use sequences::Sequence;
@@ -65,7 +66,7 @@ fn write_lists(
     write_each(alloc, &WrittenDrops {}, parts.drops.as_slice(), out)?;
     write_each(
         alloc,
-        &WrittenPres { p, names },
+        &WrittenPreconditions { p, names },
         parts.preconditions.as_slice(),
         out,
     )?;
