@@ -13,13 +13,13 @@ use Rattle.cti_terms.specs.declared.clauses.Clause.{Clause}
 use Rattle.cti_terms.specs.declared.predicates.Pred.{Pred}
 use Rattle.linear_rows.specs.Members.{In}
 use Rattle.linear_rows.proofs.Members.{in-filter, in-map, of-filter, of-map}
-use Rattle.termination_model.specs.chains.Chain.{component_of, is_number}
+use Rattle.termination_model.specs.chains.Chain.{component_of, is_number, is_member}
 use Rattle.termination_model.specs.grounds.Grounds.{Family, IsClosed, IsClosedUnder, IsGround, IsLeast, truth_row}
 use Rattle.termination_model.proofs.ChainLeaves.{call_is, number_is, placed}
 use Rattle.termination_model.proofs.ChainSieves.{all_of, of_all}
 use Rattle.termination_model.proofs.Lists.{by_places, from_places, there}
 use Rattle.component_laws.specs.Least.{HasNoOthers, LeastByComponents, LeastCarriesOver}
-use Rattle.groundness.specs.Components.{HasMembersBuiltins, IsClosedIn, IsLeastOver, is_member, over}
+use Rattle.termination_model.specs.grounds.LeastOver.{HasMembersBuiltins, IsClosedIn, IsLeastOver, over}
 use Rattle.component_laws.specs.Renaming.{AgreeOn, StandIn, Those, own_clauses, renamed, renamed_atom}
 
 pub number_of : (c : ℕ) (o : Option ℕ) → is_number c o ≡ true → o ≡ Some c

@@ -13,10 +13,9 @@ use Rattle.cti_terms.specs.declared.clauses.Clause.{Clause}
 use Rattle.cti_terms.specs.declared.predicates.Pred.{Pred}
 use Rattle.linear_rows.specs.Members.{In}
 use Rattle.linear_rows.proofs.Members.{in-filter, in-map, of-filter, of-map}
-use Rattle.termination_model.specs.chains.Chain.{component_of}
+use Rattle.termination_model.specs.chains.Chain.{component_of, is_member}
 use Rattle.termination_model.proofs.ChainLeaves.{call_is, number_is}
 use Rattle.termination_model.proofs.Lists.{indexed, place_below, there}
-use Rattle.groundness.specs.Components.{is_member}
 use Rattle.component_laws.specs.Renaming.{IsOver, StandIn, own_clauses, renamed}
 use Rattle.component_laws.specs.Untouched.{AreUntouched, FindsByName, IsKnown, KeepKinds, NamedAtom, NamedClause, UntouchedStand, clauses_in, is_in, named, named_atom}
 use Rattle.component_laws.proofs.LeastLaws.{number_of}

@@ -14,7 +14,7 @@ use Rattle.cti_terms.specs.Tree.{Tree}
 use Rattle.cti_terms.specs.declared.atom_list.Atom.{Atom}
 use Rattle.cti_terms.specs.declared.clauses.Clause.{Clause}
 use Rattle.cti_terms.specs.declared.predicates.Pred.{Pred}
-use Rattle.groundness.specs.Components.{is_member}
+use Rattle.termination_model.specs.chains.Chain.{is_member}
 use Rattle.component_laws.specs.Renaming.{StandIn}
 
 -- an atom and a clause whose predicates are known by name and arity

@@ -11,13 +11,14 @@ use Rattle.cti_terms.specs.declared.atom_list.Atom.{Atom}
 use Rattle.cti_terms.specs.declared.clauses.Clause.{Clause}
 use Rattle.cti_terms.specs.declared.predicates.Pred.{Pred}
 use Rattle.linear_rows.specs.Members.{In}
-use Rattle.termination_model.specs.chains.Chain.{component_of, is_number}
+use Rattle.termination_model.specs.chains.Chain.{component_of, is_number, is_member}
 use Rattle.termination_model.specs.grounds.Grounds.{Family, IsClosed, IsClosedUnder, IsGround, IsInside, IsLeast, truth_row}
 use Rattle.termination_model.proofs.ChainLeaves.{call_is, number_is, placed}
 use Rattle.termination_model.proofs.ChainSieves.{of_all}
 use Rattle.termination_model.proofs.Lists.{by_places, from_places, there}
 use Rattle.groundness.specs.Marks.{HasUser, IsMarked}
-use Rattle.groundness.specs.Components.{AddsOnlyNeededIn, HasNoRows, HaveStartRows, IsClosedIn, IsLeastOver, KeepsOthers, is_member, over}
+use Rattle.groundness.specs.Components.{AddsOnlyNeededIn, HasNoRows, HaveStartRows, KeepsOthers}
+use Rattle.termination_model.specs.grounds.LeastOver.{IsClosedIn, IsLeastOver, over}
 
 pub number_of : (c : ℕ) (o : Option ℕ) → is_number c o ≡ true → o ≡ Some c
 number_of c None e = cc

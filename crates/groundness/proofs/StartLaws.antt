@@ -13,14 +13,14 @@ use Rattle.cti_terms.specs.Listing.{IsProgram, Listing}
 use Rattle.cti_terms.specs.declared.builtins.Builtin.{Builtin}
 use Rattle.cti_terms.specs.declared.predicates.Pred.{Pred}
 use Rattle.cti_terms.specs.declared.predicates.PredId.{PredId}
-use Rattle.termination_model.specs.chains.Chain.{component_of}
+use Rattle.termination_model.specs.chains.Chain.{component_of, is_member}
 use Rattle.termination_model.specs.grounds.Grounds.{Family, HasArity}
 use Rattle.termination_model.proofs.ChainLeaves.{number_is}
 use Rattle.termination_model.proofs.Lists.{place_below}
 use Rattle.truth_rows.specs.Sets.{AreSets, family_of}
 use Rattle.truth_rows.proofs.ListLaws.{set_elsewhere, set_there}
 use Rattle.truth_rows.proofs.SetLaws.{family_in, family_put, some_is}
-use Rattle.groundness.specs.Components.{HaveStartRows, is_member}
+use Rattle.groundness.specs.Components.{HaveStartRows}
 use Rattle.groundness.specs.Sets.{AreBegun, AreFirst, set_as}
 use Rattle.groundness.proofs.ComponentLaws.{member_place, number_of}
 

@@ -9,10 +9,9 @@ use Rattle.cti_terms.specs.Listing.{Listing, IsOrdinary, IsProgram}
 use Rattle.cti_terms.specs.declared.atom_list.Atom.{Atom}
 use Rattle.cti_terms.specs.declared.clauses.Clause.{Clause}
 use Rattle.cti_terms.specs.declared.predicates.Pred.{Pred}
-use Rattle.groundness.specs.Components.{is_member}
+use Rattle.termination_model.specs.chains.Chain.{is_member, clauses_of, component_of, counted, is_number}
 use Rattle.linear_rows.specs.Members.{In}
 use Rattle.linear_rows.proofs.Members.{in-filter}
-use Rattle.termination_model.specs.chains.Chain.{clauses_of, component_of, counted, is_number}
 use Rattle.termination_model.proofs.ChainLeaves.{body_before, call_is, number_is, of_counted}
 use Rattle.termination_model.proofs.Lists.{place_below, there}
 use Rattle.component_laws.specs.Renaming.{StandIn}

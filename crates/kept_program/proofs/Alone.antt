@@ -14,13 +14,13 @@ use Rattle.cti_terms.specs.declared.atom_list.Atom.{Atom}
 use Rattle.cti_terms.specs.declared.builtins.Builtin.{Builtin}
 use Rattle.cti_terms.specs.declared.clauses.Clause.{Clause}
 use Rattle.linear_rows.specs.Members.{In}
-use Rattle.termination_model.specs.chains.Chain.{clauses_of, component_of, start_rows}
+use Rattle.termination_model.specs.chains.Chain.{clauses_of, component_of, start_rows, is_member}
 use Rattle.termination_model.specs.chains.ChainSteps.{Step}
 use Rattle.termination_model.specs.grounds.Grounds.{Family}
 use Rattle.termination_model.proofs.ChainLeaves.{number_is, passes_leave}
-use Rattle.groundness.specs.Components.{IsLeastOver, is_member}
+use Rattle.termination_model.specs.grounds.LeastOver.{IsLeastOver}
 use Rattle.groundness.proofs.ComponentLaws.{number_of}
-use Rattle.numeric_model.specs.Parts.{IsRunOf, is_before, starting}
+use Rattle.termination_model.specs.chains.Runs.{IsRunOf, is_before, starting}
 use Rattle.truth_rows.proofs.RowLaws.{same_bool}
 use Rattle.component_laws.specs.Renaming.{StandIn, own_clauses, renamed}
 use Rattle.solved_program.proofs.Clauses.{in_at, of_program}

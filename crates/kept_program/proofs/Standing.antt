@@ -7,10 +7,9 @@ use Rattle.cti_terms.specs.Listing.{Listing, IsProgram}
 use Rattle.cti_terms.specs.Tree.{Tree}
 use Rattle.cti_terms.specs.declared.atom_list.Atom.{Atom}
 use Rattle.cti_terms.specs.declared.predicates.Pred.{Pred}
-use Rattle.termination_model.specs.chains.Chain.{clauses_of, component_of}
+use Rattle.termination_model.specs.chains.Chain.{clauses_of, component_of, is_member}
 use Rattle.termination_model.specs.grounds.Grounds.{Family, HasArity}
 use Rattle.termination_model.proofs.ChainLeaves.{number_is}
-use Rattle.groundness.specs.Components.{is_member}
 use Rattle.groundness.proofs.ComponentLaws.{number_of}
 use Rattle.precond_fixpoint.specs.Greatest.{IsGreatestIn}
 use Rattle.component_laws.specs.Carried.{KeepsArities}

@@ -17,7 +17,8 @@ use Rattle.termination_model.proofs.Lists.{place_below}
 use Rattle.linear_rows.specs.Replacing.{row_fits}
 use Rattle.termination_model.specs.chains.Chain.{after_passes, clauses_of, start_rows, ArePasses}
 use Rattle.termination_model.specs.chains.ChainRows.{AreSpoken}
-use Rattle.numeric_model.specs.Parts.{IsPartOf, is_before, starting}
+use Rattle.numeric_model.specs.Parts.{IsPartOf}
+use Rattle.termination_model.specs.chains.Runs.{is_before, starting}
 use Rattle.numeric_model.specs.Running.{IsRun, rows_in}
 use Rattle.numeric_model.specs.declared.chain.Chain.{Chain}
 use Rattle.numeric_model.specs.States.{IsState, every, is_from, own_from, plain_step}

@@ -4,7 +4,8 @@ ghost use Rattle.std.specs.Prelude.{◌≡◌, ◌<◌, ℕ, IfOk, OnOk, length,
 ghost use Rattle.call_components.specs.Partition.{AreComponents};
 ghost use Rattle.linear_rows.specs.declared.row.Rows.{Rows as TheRows};
 ghost use Rattle.termination_model.specs.sizes.Sizes.{AreSizes, rows_of};
-ghost use Rattle.numeric_model.specs.Parts.{IsPartOf, is_before};
+ghost use Rattle.numeric_model.specs.Parts.{IsPartOf};
+ghost use Rattle.termination_model.specs.chains.Runs.{is_before};
 
 use crate::chain::Chain;
 use crate::clause_lists::own_clauses;

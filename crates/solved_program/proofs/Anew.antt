@@ -17,7 +17,7 @@ use Rattle.linear_rows.specs.Plain.{HaveWidth}
 use Rattle.linear_rows.specs.declared.multipliers.Multipliers.{Multipliers}
 use Rattle.linear_rows.specs.declared.row.Rows.{Rows}
 use Rattle.linear_rows.proofs.Members.{in-flat_map, in-map, of-flat_map, to_All}
-use Rattle.numeric_model.specs.Parts.{is_before}
+use Rattle.termination_model.specs.chains.Runs.{is_before}
 use Rattle.numeric_model.specs.Running.{paired, with_clause, with_clauses}
 use Rattle.numeric_model.specs.declared.step.Step.{Step}
 use Rattle.termination_model.specs.chains.Chain.{clauses_of, component_of}

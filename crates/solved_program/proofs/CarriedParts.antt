@@ -19,7 +19,8 @@ use Rattle.termination_model.specs.chains.ChainSteps.{Step as PlainStep}
 use Rattle.termination_model.specs.sizes.Sizes.{AreSizes, rows_of}
 use Rattle.termination_model.specs.declared.sizes.Sizes.{Sizes}
 use Rattle.termination_model.proofs.ChainLeaves.{body_before}
-use Rattle.numeric_model.specs.Parts.{IsPartOf, is_before, starting}
+use Rattle.numeric_model.specs.Parts.{IsPartOf}
+use Rattle.termination_model.specs.chains.Runs.{is_before, starting}
 use Rattle.numeric_model.specs.Proved.{IsProved}
 use Rattle.numeric_model.specs.States.{plain_step}
 use Rattle.numeric_model.specs.declared.step.Step.{Step}

@@ -9,11 +9,11 @@ use Rattle.call_components.specs.Partition.{Partition, AreComponents, IsIn}
 use Rattle.cti_terms.specs.Listing.{Listing, IsProgram}
 use Rattle.cti_terms.specs.Tree.{Tree}
 use Rattle.cti_terms.specs.declared.predicates.Pred.{Pred}
-use Rattle.groundness.specs.Components.{IsLeastOver, is_member}
+use Rattle.termination_model.specs.chains.Chain.{is_member, component_of}
+use Rattle.termination_model.specs.grounds.LeastOver.{IsLeastOver}
 use Rattle.groundness.specs.Sets.{KeepsOtherSets}
 use Rattle.groundness.proofs.ComponentLaws.{AreLeastTo as AreFoundTo, least_more}
 use Rattle.groundness.proofs.RoundLaws.{kept_later}
-use Rattle.termination_model.specs.chains.Chain.{component_of}
 use Rattle.termination_model.specs.grounds.Grounds.{Family, HasArity}
 use Rattle.termination_model.proofs.Lists.{one_element, place_below, there}
 use Rattle.truth_rows.specs.Sets.{AreSets, family_of, has_row}

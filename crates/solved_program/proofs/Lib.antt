@@ -2,6 +2,7 @@ pub mod Anew
 pub mod CarriedParts
 pub mod CarriedRows
 pub mod CarriedValues
+pub mod ChainRuns
 pub mod Clauses
 pub mod Comparisons
 pub mod Empty
@@ -9,6 +10,8 @@ pub mod GroundRows
 pub mod MemberMarks
 pub mod Marks
 pub mod Names
+pub mod OneRun
+pub mod OwnSteps
 pub mod Pairs
 pub mod Parts
 pub mod PredMarks

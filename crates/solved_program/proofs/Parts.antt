@@ -15,7 +15,8 @@ use Rattle.termination_model.specs.sizes.Systems.{row_over, system}
 use Rattle.termination_model.specs.sizes.ShortSystems.{short_row}
 use Rattle.termination_model.specs.declared.sizes.Sizes.{Sizes}
 use Rattle.termination_model.proofs.ChainLeaves.{body_before, head_before, IsBefore}
-use Rattle.numeric_model.specs.Parts.{IsPartOf, is_before, starting}
+use Rattle.numeric_model.specs.Parts.{IsPartOf}
+use Rattle.termination_model.specs.chains.Runs.{is_before, starting}
 use Rattle.numeric_model.specs.Proved.{AreShownOver, IsProved}
 use Rattle.numeric_model.specs.declared.chain.Chain.{Chain}
 use Rattle.numeric_model.proofs.Chaining.{proved_same}

@@ -13,7 +13,7 @@ use Rattle.cti_terms.specs.declared.predicates.Pred.{Pred}
 use Rattle.linear_rows.specs.Replacing.{row_fits}
 use Rattle.linear_rows.specs.declared.multipliers.Multipliers.{Multipliers}
 use Rattle.linear_rows.specs.declared.row.Rows.{Rows}
-use Rattle.numeric_model.specs.Parts.{IsRunOf}
+use Rattle.termination_model.specs.chains.Runs.{IsRunOf}
 use Rattle.numeric_model.specs.Proved.{AreProved, IsProved}
 use Rattle.numeric_model.specs.States.{plain_step}
 use Rattle.numeric_model.specs.declared.step.Step.{Step}

@@ -9,9 +9,8 @@ use Rattle.cti_terms.specs.declared.clauses.Clause.{Clause}
 use Rattle.cti_terms.specs.declared.predicates.Pred.{Pred}
 use Rattle.linear_rows.specs.Members.{In}
 use Rattle.linear_rows.proofs.Members.{of-map}
-use Rattle.termination_model.specs.chains.Chain.{clauses_of, component_of, counted, is_number}
+use Rattle.termination_model.specs.chains.Chain.{clauses_of, component_of, counted, is_number, is_member}
 use Rattle.termination_model.proofs.ChainLeaves.{number_is}
-use Rattle.groundness.specs.Components.{is_member}
 use Rattle.groundness.proofs.ComponentLaws.{number_of}
 use Rattle.component_laws.specs.Renaming.{renamed, AgreeOn, IsOver, KeepsApart, StandIn, own_clauses}
 use Rattle.component_laws.specs.Runs.{AreRenamed}

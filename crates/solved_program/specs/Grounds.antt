@@ -12,7 +12,8 @@ use Rattle.call_components.specs.Partition.{Partition, AreComponents, IsIn}
 use Rattle.cti_terms.specs.Listing.{Listing, IsProgram}
 use Rattle.cti_terms.specs.Tree.{Tree}
 use Rattle.cti_terms.specs.declared.predicates.Pred.{Pred}
-use Rattle.groundness.specs.Components.{IsLeastOver, is_member}
+use Rattle.termination_model.specs.chains.Chain.{is_member}
+use Rattle.termination_model.specs.grounds.LeastOver.{IsLeastOver}
 use Rattle.termination_model.specs.grounds.Grounds.{Family, IsLeast}
 use Rattle.truth_rows.specs.Sets.{AreSets, family_of}
 use Rattle.groundness.specs.Marks.{AreHeads, AreUsers}

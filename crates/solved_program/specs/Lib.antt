@@ -4,6 +4,7 @@ pub mod EditClauses
 pub mod Grounds
 pub mod Kept
 pub mod Marks
+pub mod OwnSteps
 pub mod Renumbered
 pub mod Resolving
 pub mod Solved

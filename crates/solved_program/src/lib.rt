@@ -11,7 +11,8 @@
 //! and components are compared by these numbers. A component without clauses is solved each time.
 //!
 //! `resolve_grounds` does the same with ground rows, in a table of diagrams that goes from one edit to the next. A program
-//! that was not there before is an edit of the empty program.
+//! that was not there before is an edit of the empty program. Where no clause is kept, `solve_sizes` finds the size rows
+//! in one run of all components, since each one that is solved by itself takes the time of the whole program.
 //!
 //! `StandsFor` says when a component stands for an old one, over any value for each predicate, so that it serves other
 //! engines too. `stayed_rows` and `Sources::standing` decide it by the size rows that have come out.
@@ -31,6 +32,7 @@ mod marking;
 mod renumbering;
 mod resolving;
 mod solved_sizes;
+mod solving;
 mod standing;
 mod taking;
 
@@ -40,3 +42,4 @@ pub use grounds::{carried_sets, resolve_grounds};
 pub use marking::stayed_rows;
 pub use resolving::{Sources, resolve_sizes};
 pub use solved_sizes::SolvedSizes;
+pub use solving::solve_sizes;

@@ -1,10 +1,10 @@
 //! The size rows of a program after an edit.
 
 ghost use Rattle.std.specs.Prelude.{◌≡◌, ◌≤◌, ◌<◌, ◌+◌, ℕ, List, IfOk, IfSome, IsNone, OnOk, Some, All, length, map};
-ghost use Rattle.std.specs.Prelude.{slice_get};
+ghost use Rattle.std.specs.Prelude.{false, slice_get, true};
 ghost use Rattle.call_components.specs.Numbers.{number_of};
 ghost use Rattle.termination_model.specs.sizes.Sizes.{AreSizes, rows_of};
-ghost use Rattle.solved_program.specs.Kept.{IsEdit};
+ghost use Rattle.solved_program.specs.Kept.{IsEdit, KeepsNone};
 ghost use Rattle.solved_program.specs.Marks.{AreMarked, StandsMarked};
 ghost use Rattle.solved_program.specs.Resolving.{AreResolvedTo, AreSources, IsCarriedFrom, IsPartTaken};
 ghost use Rattle.solved_program.specs.Resolving.{IsSolvedAt};
@@ -17,6 +17,7 @@ use crate::edit_clauses::EditClauses;
 use crate::marking::{mark_all, mark_same_rows};
 use crate::renumbering::renumbered;
 use crate::solved_sizes::SolvedSizes;
+use crate::solving::solve_sizes;
 use crate::taking::{take_proofs, take_rows};
 use cti_terms::PredId;
 use numeric_model::{Chain, own_clauses, solve_component};
@@ -213,10 +214,24 @@ impl Sources<'_> {
     }
 }
 
+/// Whether no clause is kept.
+fn keeps_none(kept: &[Option<u32>]) -> bool
+    ensures none { result ≡ true → KeepsNone kept.now }
+    ensures some { result ≡ false → KeepsNone kept.now → ⊥ }
+{
+    for k in kept {
+        if k.is_some() {
+            return false;
+        }
+    }
+    true
+}
+
 /// The size rows of a program after an edit, from those before it.
 ///
 /// A component keeps its steps, rows and proofs where its clauses are those of an old component, all of them and in
-/// their order, and the predicates that they call have the rows that they had. Each other component is solved.
+/// their order, and the predicates that they call have the rows that they had. Each other component is solved. Where no
+/// clause is kept, as in a program that was not there before, all of them are solved in one run.
 pub fn resolve_sizes<D: Domain, N: Norm>(
     alloc: Global,
     norm: &N,
@@ -234,6 +249,9 @@ pub fn resolve_sizes<D: Domain, N: Norm>(
     ensures kept { IfOk result
         (λ now. KeepValues edit.now (rows_of old.now.sizes.rows) (rows_of now.sizes.rows)) }
 {
+    if keeps_none(edit.kept) {
+        return solve_sizes::<D, N>(alloc, edit.after, edit.components, norm);
+    }
     let own_before = own_clauses(alloc, edit.before, edit.components_before)?;
     let own = own_clauses(alloc, edit.after, edit.components)?;
     let sources = Sources {

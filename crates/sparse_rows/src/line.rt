@@ -144,7 +144,7 @@ impl Line {
     }
 
     /// Whether another row is this one negated in the columns below `many`.
-    pub fn negates(&self, other: &Line, many: usize) -> bool
+    pub(crate) fn negates(&self, other: &Line, many: usize) -> bool
         requires { All Fits self.now }
         ensures { result ≡ negates many self.now other.now }
     {
@@ -181,7 +181,7 @@ impl Line {
     }
 
     /// The row, each number divided by `part`, rounded toward 0.
-    pub fn divided_by(&self, alloc: Global, part: u128) -> Result<Line, AllocError>
+    pub(crate) fn divided_by(&self, alloc: Global, part: u128) -> Result<Line, AllocError>
         requires some { 0 < part }
         requires fits { part < 2 ^ 127 }
         ensures { IfOk result (λ out. out ≡ map (λ x. int_div x (pos part)) self.now) }

@@ -3,3 +3,4 @@ pub mod ChainKept
 pub mod ChainLicences
 pub mod ChainRows
 pub mod ChainSteps
+pub mod Runs

@@ -1,3 +1,4 @@
 pub mod Grounds
+pub mod LeastOver
 pub mod Minimal
 pub mod Modes

@@ -1,7 +1,7 @@
 use Rattle.std.proofs.Common.{◌∙◌, refl, arith}
 use Rattle.bool_diagrams.proofs.CallerLemmas.{keeps_same, keeps_twice}
 use Rattle.truth_rows.specs.Sets.{family_of}
-use Rattle.groundness.specs.Components.{is_member}
+use Rattle.termination_model.specs.chains.Chain.{is_member}
 use Rattle.groundness.proofs.ComponentLaws.{least_over, marked_member, needed_more}
 use Rattle.groundness.proofs.RoundLaws.{kept_later}
 use Rattle.groundness.proofs.solving.add_all.Goals as goal

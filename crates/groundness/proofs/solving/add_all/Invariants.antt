@@ -2,7 +2,8 @@ use Rattle.std.proofs.Common.{◌≡◌, length}
 use Rattle.bool_diagrams.specs.Rows.{Keeps}
 use Rattle.termination_model.specs.grounds.Grounds.{IsInside}
 use Rattle.truth_rows.specs.Sets.{AreSets, family_of}
-use Rattle.groundness.specs.Components.{AddsOnlyNeededIn, UnmarkedAreClosedIn, is_member}
+use Rattle.groundness.specs.Components.{AddsOnlyNeededIn, UnmarkedAreClosedIn}
+use Rattle.termination_model.specs.chains.Chain.{is_member}
 use Rattle.groundness.specs.Marks.{work}
 use Rattle.groundness.specs.Sets.{KeepsOtherSets}
 use Rattle.groundness.proofs.solving.add_all.Given as goal

@@ -7,8 +7,7 @@ use Rattle.truth_rows.proofs.ListLaws.{set_elsewhere}
 use Rattle.termination_model.proofs.Lists.{place_below}
 use Rattle.groundness.specs.Marks.{HasUser, IsApart, IsMarked, marks_left}
 use Rattle.bool_diagrams.specs.declared.diagram.Diagram.{Diagram}
-use Rattle.termination_model.specs.chains.Chain.{is_number}
-use Rattle.groundness.specs.Components.{is_member}
+use Rattle.termination_model.specs.chains.Chain.{is_number, is_member}
 use Rattle.groundness.specs.Missing.{all_missing}
 use Rattle.groundness.proofs.MarkLaws.{left_taken, less_marks, less_work}
 use Rattle.groundness.proofs.RoundLaws.{closed_later, kept_later, missing_same, still_closed}

@@ -1,5 +1,5 @@
 use Rattle.truth_rows.proofs.CallerLemmas.{sets_later}
-use Rattle.groundness.specs.Components.{is_member}
+use Rattle.termination_model.specs.chains.Chain.{is_member}
 use Rattle.groundness.specs.Sets.{AreFirst}
 use Rattle.groundness.proofs.StartLaws.{begun_sets, begun_start}
 use Rattle.groundness.proofs.solving.begin.Goals as goal

@@ -1,6 +1,6 @@
 use Rattle.std.proofs.Common.{refl, sym, ◌∙◌}
 use Rattle.truth_rows.specs.Sets.{family_of}
-use Rattle.groundness.specs.Components.{is_member}
+use Rattle.termination_model.specs.chains.Chain.{is_member}
 use Rattle.groundness.proofs.ComponentLaws.{least_stays}
 use Rattle.groundness.proofs.RoundLaws.{kept_later}
 use Rattle.groundness.proofs.solving.solve_component.Goals as goal

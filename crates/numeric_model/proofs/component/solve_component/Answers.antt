@@ -4,7 +4,7 @@ use Rattle.cti_terms.specs.declared.clauses.Clause.{Clause}
 use Rattle.termination_model.specs.chains.Chain.{clauses_of}
 use Rattle.termination_model.specs.sizes.Sizes.{rows_of}
 use Rattle.termination_model.proofs.Lists.{there}
-use Rattle.numeric_model.specs.Parts.{is_before}
+use Rattle.termination_model.specs.chains.Runs.{is_before}
 use Rattle.numeric_model.specs.Running.{IsRun, with_clauses}
 use Rattle.numeric_model.specs.declared.state.State.{State}
 use Rattle.numeric_model.proofs.Below.{part_of, put_state}
