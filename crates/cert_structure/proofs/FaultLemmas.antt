@@ -24,12 +24,13 @@ use Rattle.cert_structure.specs.Shape.{IsPairPoint, PairsAscend, place_of_pair, 
 use Rattle.cert_structure.specs.Structure.{IsStructured, AreNotes}
 use Rattle.cert_structure.specs.StructureFault.{HaveOnePlace, content_fault, IsBeginning, whole, short, IsStructureFault, missing, extra, content}
 use Rattle.cert_structure.specs.StructureFault as place
-use Rattle.cert_structure.specs.Walk.{take_refuted, is_open, read_point, read_points, read_group, take_norm, named_norm, by_version, read_head, read_modes, read_rows, read_proofs, read_grounds, read_levels, read_falls, read_pre, read_refutation, read_parts, with_notes, read_whole, shared_refuted}
+use Rattle.cert_structure.specs.Walk.{take_refuted, is_open, read_point, read_points, take_norm, named_norm, by_version, read_head, read_modes, read_rows, read_proofs, read_grounds, read_levels, read_falls, read_pre, read_refutation, read_parts, with_notes, read_whole, shared_refuted, group_by, refutation_by}
 use Rattle.fact_reading.specs.Walk.{◌>>=◌, Wrong, Read, result_map, wrong_at, with_first, item_of, read_each}
 use Rattle.cert_structure.proofs.KindLemmas.{kind, IsVersion, split_version, IsNorm, split_norm}
 use Rattle.fact_reading.proofs.SectionLemmas.{err_ok, all_both, all_from, others_from, all_weaker}
 use Rattle.cert_structure.proofs.TakeLemmas.{refuted_given}
-use Rattle.cert_structure.proofs.PointLemmas.{point_given, open_back, refutation_given}
+use Rattle.cert_structure.proofs.GroupLemmas.{open_back}
+use Rattle.cert_structure.proofs.PointLemmas.{point_given, refutation_given}
 use Rattle.cert_structure.proofs.ComponentLemmas.{first_le, shape, structure}
 use Rattle.cert_structure.proofs.ContentLemmas.{not_same}
 use Rattle.cert_structure.proofs.LevelLemmas.{IsLevels, NoLevel, levels_sound, levels_back}
@@ -608,26 +609,26 @@ module _ (p : Listing) (names : List (List ℕ)) (comps : Partition) (h : AreCom
   quiet_map c (Err w) q = q
 
   points_quiet : (a : ℕ) (xs : List PairPoint) (last : ℕ × ℕ) (n i : ℕ) → length xs ≤ n → PairsAscend last xs → AllByRecursion (IsPairPoint p comps a) xs
-      → QuietEnd (read_points p comps a last n (facts_from i (λ _ x. point_facts x) xs))
+      → QuietEnd (read_points (read_point p comps a) last n (facts_from i (λ _ x. point_facts x) xs))
   unfolding read_points read_point
   points_quiet a [] last zero i fits ascend all = refl
   points_quiet a [] last (suc n) i fits ascend all = refl
   points_quiet a (x ∷ xs) last zero i fits ascend all = absurd (omega (arith, fits))
   points_quiet a (x ∷ xs) last (suc n) i fits ascend all =
       let read = point_given p comps a last x (facts_from (suc i) (λ _ x. point_facts x) xs) ascend.0 all.0 in
-      subst (λ z. QuietEnd (z >>= λ x. result_map (with_first x.0) (read_points p comps a (x.0.clause, x.0.call) n x.1))) (sym read)
-      (quiet_map (λ ys. x ∷ ys) (read_points p comps a (place_of_pair x) n (facts_from (suc i) (λ _ x. point_facts x) xs)) (points_quiet a xs (place_of_pair x) n (suc i) (omega (arith, fits)) ascend.1 all.1))
+      subst (λ z. QuietEnd (z >>= λ x. result_map (with_first x.0) (read_points (read_point p comps a) (x.0.clause, x.0.call) n x.1))) (sym read)
+      (quiet_map (λ ys. x ∷ ys) (read_points (read_point p comps a) (place_of_pair x) n (facts_from (suc i) (λ _ x. point_facts x) xs)) (points_quiet a xs (place_of_pair x) n (suc i) (omega (arith, fits)) ascend.1 all.1))
 
   group_quiet : (levels : Levels) (a : ℕ) (r : Refutation) (count : ℕ) → IsRefutation p comps levels a (Some r) → length r.points ≤ count
       → QuietEnd (read_refutation p names comps levels a (fact.Refuted (pred_text p names a) count ∷ facts_from 0 (λ _ x. point_facts x) r.points))
-  unfolding read_refutation read_group
+  unfolding refutation_by group_by
   group_quiet levels a r count is enough =
       let some = is.1 in
       rw (open_back comps levels a is.0, refuted_given (pred_text p names a) 0 count (omega (arith, some, enough)))
-      (quiet_map (λ xs. Some (record { points = xs })) (read_points p comps a (0, 0) count (facts_from 0 (λ _ x. point_facts x) r.points)) (points_quiet a r.points (0, 0) count 0 enough is.2 is.3))
+      (quiet_map (λ xs. Some (record { points = xs })) (read_points (read_point p comps a) (0, 0) count (facts_from 0 (λ _ x. point_facts x) r.points)) (points_quiet a r.points (0, 0) count 0 enough is.2 is.3))
 
   none_left : (levels : Levels) (a : ℕ) → read_refutation p names comps levels a [] ≡ Ok (None, [])
-  unfolding read_refutation read_group
+  unfolding refutation_by group_by
   none_left levels a = go (is_open comps levels a)
     where
       go : (b : Bool) → if◌then◌else◌ {A = Read Fact (Option Refutation)} b (Ok (None, [])) (Ok (None, [])) ≡ Ok (None, [])

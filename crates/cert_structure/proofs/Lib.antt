@@ -5,6 +5,7 @@ pub mod ContentLemmas
 pub mod SharedKinds
 pub mod SharedLemmas
 pub mod TakeLemmas
+pub mod GroupLemmas
 pub mod PointLemmas
 pub mod LevelLemmas
 pub mod StructureLemmas

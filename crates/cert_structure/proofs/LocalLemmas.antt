@@ -19,12 +19,12 @@ use Rattle.number_tests.specs.declared.refutation.Refutation.{Refutation}
 use Rattle.fact_reading.specs.declared.stop.StructureReason.{StructureReason}
 use Rattle.fact_reading.specs.declared.stop.StructureReason.TheVariants as reason
 use Rattle.cert_structure.specs.declared.parts.Parts.{Parts}
-use Rattle.cert_structure.specs.declared.refutations.FirstPoint.{FirstPoint}
+use Rattle.cert_structure.specs.declared.points.FirstPoint.{FirstPoint}
 use Rattle.cert_structure.specs.Order.{pred_text}
 use Rattle.cert_structure.specs.Shape.{is_pair, arity_in, head_of, body_of, vars_of, rows_of, rows_of_atoms, items_of, is_recursive, first_of, proofs_of_call}
 use Rattle.cert_structure.specs.StructureFault.{HaveOnePlace}
 use Rattle.cert_structure.specs.StructureFault as place
-use Rattle.cert_structure.specs.Walk.{kept, at_place, same_pred, is_mode, is_entry, are_entries, is_amount, are_amounts, is_before, cell_read, pair_end, pair_point, point_read, row_read, multipliers_read, level_read, paired, take_modes, take_row, take_proof, take_ground, take_level, take_fall, take_pre, take_refuted, take_point, take_second, read_second, read_point, read_points, refutation_read, read_group, is_open, read_refutation, read_modes, read_rows, read_proofs, read_grounds, read_level, read_levels, read_call, read_calls, read_falls, read_cubes, read_pre, take_norm, named_norm, by_version, read_head, read_sections, read_parts, cubes_by, grounds_by, modes_by, pre_by, proofs_by, rows_by, shared_ground, shared_modes, shared_pre, shared_proof, shared_refuted, shared_row}
+use Rattle.cert_structure.specs.Walk.{kept, at_place, same_pred, is_mode, is_entry, are_entries, is_amount, are_amounts, is_before, cell_read, pair_end, pair_point, point_read, row_read, multipliers_read, level_read, paired, take_modes, take_row, take_proof, take_ground, take_level, take_fall, take_pre, take_refuted, take_point, take_second, read_second, read_point, read_points, points_read, read_group, is_open, read_refutation, read_modes, read_rows, read_proofs, read_grounds, read_level, read_levels, read_call, read_calls, read_falls, read_cubes, read_pre, take_norm, named_norm, by_version, read_head, read_sections, read_parts, cubes_by, grounds_by, modes_by, pre_by, proofs_by, rows_by, shared_ground, shared_modes, shared_pre, shared_proof, shared_refuted, shared_row, group_by, refutation_by}
 use Rattle.fact_reading.specs.Walk.{◌>>=◌, Wrong, Read, Taken, result_map, wrong_at, with_first, item_of, go_on, read_next, read_many, read_each}
 use Rattle.cert_structure.proofs.KindLemmas.{IsVersion, split_version}
 use Rattle.fact_reading.proofs.SectionLemmas.{same_some, same_ok, err_ok, bound, mapped}
@@ -365,16 +365,16 @@ module _ (p : Listing) (comps : Partition) (a : ℕ) where
   unfolding read_point
   local_point last = local_bind (read_next (take_point p comps a last) 0) (read_second p) (local_next (take_point p comps a last) (point_stay p comps a last) 0) local_second
 
-  local_points : (last : ℕ × ℕ) (n : ℕ) → IsLocal (read_points p comps a last n)
+  local_points : (last : ℕ × ℕ) (n : ℕ) → IsLocal (read_points (read_point p comps a) last n)
   unfolding read_points
   local_points last zero = local_ok []
   local_points last (suc n) =
-      local_bind (read_point p comps a last) (λ x s. result_map (with_first x) (read_points p comps a (x.clause, x.call) n s)) (local_point last)
-      (λ x. local_map (λ ys. x ∷ ys) (read_points p comps a (x.clause, x.call) n) (local_points (x.clause, x.call) n))
+      local_bind (read_point p comps a last) (λ x s. result_map (with_first x) (read_points (read_point p comps a) (x.clause, x.call) n s)) (local_point last)
+      (λ x. local_map (λ ys. x ∷ ys) (read_points (read_point p comps a) (x.clause, x.call) n) (local_points (x.clause, x.call) n))
 
 module _ (p : Listing) (names : List (List ℕ)) (comps : Partition) (a : ℕ) where
   local_group : IsLocal (read_group p names comps a)
-  unfolding read_group
+  unfolding group_by
   local_group = record { ok = found; err = failed }
     where
       found : (s t : List Fact) (x : Option Refutation) (f : Fact) → read_group p names comps a s ≡ Ok (x, f ∷ t) → After (read_group p names comps a) s x f t
@@ -384,7 +384,7 @@ module _ (p : Listing) (names : List (List ℕ)) (comps : Partition) (a : ℕ) w
           absurd (cc rest)
       found (c ∷ s) t x f e = go (take_refuted (pred_text p names a) 0 c) refl e
         where
-          go : (o : Taken ℕ) → take_refuted (pred_text p names a) 0 c ≡ o → refutation_read (λ n. read_points p comps a (0, 0) n s) c s o ≡ Ok (x, f ∷ t) → After (read_group p names comps a) (c ∷ s) x f t
+          go : (o : Taken ℕ) → take_refuted (pred_text p names a) 0 c ≡ o → points_read (λ n. read_points (read_point p comps a) (0, 0) n s) c s o ≡ Ok (x, f ∷ t) → After (read_group p names comps a) (c ∷ s) x f t
           go None read same = err_ok _ (x, f ∷ t) same
           go (Some None) read same =
               let both : (None, c ∷ s) ≡ (x, f ∷ t) = same_ok _ _ same in
@@ -394,18 +394,18 @@ module _ (p : Listing) (names : List (List ℕ)) (comps : Partition) (a : ℕ) w
               record {
                 front = [];
                 split = rest;
-                again = λ g v m. ap (λ z. refutation_read (λ n. read_points p comps a (0, 0) n v) g v z) (refuted_stay (pred_text p names a) 0 f g m (ap (λ z. take_refuted (pred_text p names a) 0 z) (sym own) ∙ read))
+                again = λ g v m. ap (λ z. points_read (λ n. read_points (read_point p comps a) (0, 0) n v) g v z) (refuted_stay (pred_text p names a) 0 f g m (ap (λ z. take_refuted (pred_text p names a) 0 z) (sym own) ∙ read))
                     ∙ ap (λ z. Ok (z, g ∷ v)) first;
               }
           go (Some (Some n)) read same =
-              mapped (λ q. (Some (record { points = q.0 }), q.1)) (read_points p comps a (0, 0) n s) (x, f ∷ t) same λ q inner both.
+              mapped (λ q. (Some (record { points = q.0 }), q.1)) (read_points (read_point p comps a) (0, 0) n s) (x, f ∷ t) same λ q inner both.
               let first : Some (record { points = q.0 }) ≡ x = ap (λ z. z.0) both in
               let rest : q.1 ≡ f ∷ t = ap (λ z. z.1) both in
               let b = (local_points p comps a (0, 0) n).ok s t q.0 f (inner ∙ ap (λ z. Ok (q.0, z)) rest) in
               record {
                 front = c ∷ b.front;
                 split = ap (λ z. c ∷ z) b.split;
-                again = λ g v m. ap (λ z. refutation_read (λ n. read_points p comps a (0, 0) n (b.front ++ g ∷ v)) c (b.front ++ g ∷ v) z) read
+                again = λ g v m. ap (λ z. points_read (λ n. read_points (read_point p comps a) (0, 0) n (b.front ++ g ∷ v)) c (b.front ++ g ∷ v) z) read
                     ∙ ap (λ z. result_map (λ q. (Some (record { points = q.0 }), q.1)) z) (b.again g v m) ∙ ap (λ z. Ok (z, g ∷ v)) first;
               }
 
@@ -413,25 +413,25 @@ module _ (p : Listing) (names : List (List ℕ)) (comps : Partition) (a : ℕ) w
       failed [] n why e = err_ok (suc n, why) (None, []) (sym e)
       failed (c ∷ s) n why e = go (take_refuted (pred_text p names a) 0 c) refl e
         where
-          go : (o : Taken ℕ) → take_refuted (pred_text p names a) 0 c ≡ o → refutation_read (λ n. read_points p comps a (0, 0) n s) c s o ≡ Err (suc n, why) → Fails (read_group p names comps a) (c ∷ s) n why
+          go : (o : Taken ℕ) → take_refuted (pred_text p names a) 0 c ≡ o → points_read (λ n. read_points (read_point p comps a) (0, 0) n s) c s o ≡ Err (suc n, why) → Fails (read_group p names comps a) (c ∷ s) n why
           go None read same =
               here (read_group p names comps a) c s reason.Shape n why same
-              (λ g v m. ap (λ z. refutation_read (λ n. read_points p comps a (0, 0) n v) g v z) (ap (λ z. take_refuted (pred_text p names a) 0 z) (sym m) ∙ read))
+              (λ g v m. ap (λ z. points_read (λ n. read_points (read_point p comps a) (0, 0) n v) g v z) (ap (λ z. take_refuted (pred_text p names a) 0 z) (sym m) ∙ read))
           go (Some None) read same = err_ok (suc n, why) (None, c ∷ s) (sym same)
           go (Some (Some count)) read same =
-              let b = (local_points p comps a (0, 0) count).err s n why (mapped_err (λ q. (Some (record { points = q.0 }), q.1)) (read_points p comps a (0, 0) count s) (suc n, why) same) in
+              let b = (local_points p comps a (0, 0) count).err s n why (mapped_err (λ q. (Some (record { points = q.0 }), q.1)) (read_points (read_point p comps a) (0, 0) count s) (suc n, why) same) in
               record {
                 front = c ∷ b.front;
                 wrong = b.wrong;
                 more = b.more;
                 split = ap (λ z. c ∷ z) b.split;
                 left = b.left;
-                again = λ g v m. ap (λ z. refutation_read (λ n. read_points p comps a (0, 0) n (b.front ++ g ∷ v)) c (b.front ++ g ∷ v) z) read
+                again = λ g v m. ap (λ z. points_read (λ n. read_points (read_point p comps a) (0, 0) n (b.front ++ g ∷ v)) c (b.front ++ g ∷ v) z) read
                     ∙ ap (λ z. result_map (λ q. (Some (record { points = q.0 }), q.1)) z) (b.again g v m);
               }
 
   local_refutation : (levels : List (List LevelPart)) → IsLocal (read_refutation p names comps levels a)
-  unfolding read_refutation
+  unfolding refutation_by
   local_refutation levels = local_if (is_open comps levels a) (read_group p names comps a) (λ s. Ok (None, s)) local_group (local_ok None)
 
 module _ (p : Listing) (names : List (List ℕ)) where

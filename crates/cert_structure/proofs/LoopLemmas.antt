@@ -14,7 +14,7 @@ use Rattle.number_tests.specs.declared.pair_point.PairPoint.{PairPoint}
 use Rattle.cert_structure.specs.Order.{is_note}
 use Rattle.cert_structure.specs.Shape.{rows_of}
 use Rattle.cert_structure.specs.Structure.{AreNotes}
-use Rattle.cert_structure.specs.Walk.{read_level, read_levels, read_point, read_points, read_call, read_calls, is_mode}
+use Rattle.cert_structure.specs.Walk.{read_level, read_levels, ReadsPoint, read_points, read_call, read_calls, is_mode}
 use Rattle.fact_reading.proofs.LoopLemmas.{one_more}
 use Rattle.fact_reading.specs.Walk.{Wrong, with_all}
 
@@ -39,19 +39,19 @@ module _ (p : Listing) (names : List (List ℕ)) (comps : Partition) (earlier : 
   unfolding read_levels
   levels_more n b x t e next read = rw (e, next, read) refl
 
-module _ (p : Listing) (comps : Partition) (a : ℕ) (xs : List PairPoint) (last : ℕ × ℕ) (m : ℕ) (s : List Fact) where
-  pub points_end : m ≡ 0 → with_all xs (read_points p comps a last m s) ≡ Ok (xs, s)
+module _ {F : Type 0} (point : ReadsPoint F) (xs : List PairPoint) (last : ℕ × ℕ) (m : ℕ) (s : List F) where
+  pub points_end : m ≡ 0 → with_all xs (read_points point last m s) ≡ Ok (xs, s)
   unfolding read_points
   points_end e = rw (e, append-nil xs) refl
 
-  pub points_err : (n : ℕ) (w : Wrong) → m ≡ suc n → read_point p comps a last s ≡ Err w → with_all xs (read_points p comps a last m s) ≡ Err w
+  pub points_err : (n : ℕ) (w : Wrong) → m ≡ suc n → point last s ≡ Err w → with_all xs (read_points point last m s) ≡ Err w
   unfolding read_points
   points_err n w e bad = rw (e, bad) refl
 
-  pub points_more : (n : ℕ) (x : PairPoint) (t : List Fact) → m ≡ suc n → read_point p comps a last s ≡ Ok (x, t)
-      → with_all (xs ++ x ∷ []) (read_points p comps a (x.clause, x.call) n t) ≡ with_all xs (read_points p comps a last m s)
+  pub points_more : (n : ℕ) (x : PairPoint) (t : List F) → m ≡ suc n → point last s ≡ Ok (x, t)
+      → with_all (xs ++ x ∷ []) (read_points point (x.clause, x.call) n t) ≡ with_all xs (read_points point last m s)
   unfolding read_points
-  points_more n x t e read = rw (e, read) (one_more xs x (read_points p comps a (x.clause, x.call) n t))
+  points_more n x t e read = rw (e, read) (one_more xs x (read_points point (x.clause, x.call) n t))
 
 -- the atom at a place, and those after it
 pub atom_at : (i : ℕ) (body : List Atom) (b : Atom) → i < length body → b ≡ slice_index_or body i b → drop i body ≡ b ∷ drop (suc i) body

@@ -15,18 +15,19 @@ use Rattle.number_tests.specs.declared.level_part.LevelPart.{LevelPart}
 use Rattle.linear_rows.specs.declared.point.Point.{Point}
 use Rattle.number_tests.specs.declared.pair_point.PairPoint.{PairPoint}
 use Rattle.number_tests.specs.declared.refutation.Refutation.{Refutation}
-use Rattle.cert_structure.specs.declared.refutations.FirstPoint.{FirstPoint}
+use Rattle.cert_structure.specs.declared.points.FirstPoint.{FirstPoint}
 use Rattle.fact_reading.specs.Numbered.{facts_from, EachFrom}
 use Rattle.cert_structure.specs.Order.{pred_text, point_facts, refutation_facts}
 use Rattle.cert_structure.specs.Shape.{vars_of, is_recursive, is_pair, IsBefore, PairsAscend, IsPoint, IsPairPoint, IsRefutation}
 use Rattle.cert_structure.specs.StructureFault as place
-use Rattle.cert_structure.specs.Walk.{same_pred, kept, is_before, pair_end, pair_point, paired, point_read, take_refuted, take_point, take_second, read_second, read_point, read_points, refutation_read, read_group, is_open, read_refutation, shared_refuted}
+use Rattle.cert_structure.specs.Walk.{same_pred, kept, is_before, pair_end, pair_point, paired, point_read, take_refuted, take_point, take_second, read_second, read_point, read_points, points_read, read_group, is_open, read_refutation, shared_refuted, group_by, refutation_by}
 use Rattle.fact_reading.specs.Walk.{Wrong, Taken, item_of, result_map, with_first, read_next, read_each}
 use Rattle.cert_structure.proofs.KindLemmas.{split_refuted, split_point, split_second, IsRefuted, IsPoint as IsPointFact, IsAt}
 use Rattle.fact_reading.proofs.SectionLemmas.{err_ok, next_sound}
 use Rattle.cert_structure.proofs.ContentLemmas.{same_is, amount_is}
 use Rattle.cert_structure.proofs.TakeLemmas.{refuted_taken}
-use Rattle.cert_structure.proofs.PointLemmas.{before_is, IsFirst, first_taken, second_taken, point_sound, open_is, refutation_sound}
+use Rattle.cert_structure.proofs.PointLemmas.{before_is, IsFirst, first_taken, second_taken, point_sound, refutation_sound}
+use Rattle.cert_structure.proofs.GroupLemmas.{open_is}
 use Rattle.cert_structure.proofs.LocalLemmas.{bound_err, mapped_err, with_made}
 use Rattle.cert_structure.proofs.EndLemmas.{shows_more, Ends, ends_weaker, after_read, at_wrong, missed, bad_place, IsBadAt, next_ends, fill, zeros, many_zeros, zeros_amounts}
 
@@ -142,15 +143,15 @@ module _ (p : Listing) (comps : Partition) (a : ℕ) where
       let (one, right) = next_sound (take_point p comps a last) (λ _ y. fact.Point y.pair.clause y.pair.call y.point.t y.point.w) _ (first_taken p comps a last) 0 s q.1 q.0 here in
       after_read _ s (first_fact q.0 ∷ []) q.1 w one (second_ends last n i q.0 right q.1 w more))
 
-  points_ends : (n : ℕ) (last : ℕ × ℕ) (i : ℕ) (s : List Fact) (w : Wrong) → read_points p comps a last n s ≡ Err w → Ends (HasPairs last n i) s w
+  points_ends : (n : ℕ) (last : ℕ × ℕ) (i : ℕ) (s : List Fact) (w : Wrong) → read_points (read_point p comps a) last n s ≡ Err w → Ends (HasPairs last n i) s w
   unfolding read_points
   points_ends zero last i s w e = err_ok w ([], s) (sym e)
   points_ends (suc n) last i s w e =
-      bound_err (λ x. result_map (with_first x.0) (read_points p comps a (x.0.clause, x.0.call) n x.1)) (read_point p comps a last s) w e (λ first. point_ends last n i s w first)
+      bound_err (λ x. result_map (with_first x.0) (read_points (read_point p comps a) (x.0.clause, x.0.call) n x.1)) (read_point p comps a last s) w e (λ first. point_ends last n i s w first)
       (λ q read more.
       let (one, before, right) = point_sound p comps a last s q.1 q.0 read in
       after_read _ s (point_facts q.0) q.1 w one
-      (ends_weaker _ _ q.1 w (points_ends n (q.0.clause, q.0.call) (suc i) q.1 w (mapped_err (with_first q.0) (read_points p comps a (q.0.clause, q.0.call) n q.1) w more))
+      (ends_weaker _ _ q.1 w (points_ends n (q.0.clause, q.0.call) (suc i) q.1 w (mapped_err (with_first q.0) (read_points (read_point p comps a) (q.0.clause, q.0.call) n q.1) w more))
       (λ l h. (q.0 ∷ h.0, ap (λ z. point_facts q.0 ++ z) h.1, (longer h.0 n h.2.0, (before, h.2.1), (right, h.2.2))))))
     where
       longer : (xs : List PairPoint) (n : ℕ) → length xs ≤ n → suc (length xs) ≤ suc n
@@ -205,11 +206,11 @@ module _ (p : Listing) (names : List (List ℕ)) (comps : Partition) (a : ℕ) w
         go (x ∷ xs) is are = record { done = b.done; stands = b.stands; may = b.may; split = b.split; left = b.left; end = (record { points = x ∷ xs }, is, (are.0, omega arith, are.1, are.2)); why = b.why }
 
     group_ends : (s : List Fact) (w : Wrong) → read_group p names comps a s ≡ Err w → Ends HasGroup s w
-    unfolding read_group
+    unfolding group_by
     group_ends [] w e = err_ok w (None, []) (sym e)
     group_ends (f ∷ s) w e = go (take_refuted (pred_text p names a) 0 f) refl e
       where
-        go : (o : Taken ℕ) → take_refuted (pred_text p names a) 0 f ≡ o → refutation_read (λ n. read_points p comps a (0, 0) n s) f s o ≡ Err w → Ends HasGroup (f ∷ s) w
+        go : (o : Taken ℕ) → take_refuted (pred_text p names a) 0 f ≡ o → points_read (λ n. read_points (read_point p comps a) (0, 0) n s) f s o ≡ Err w → Ends HasGroup (f ∷ s) w
         go None read same =
             let (there, content) = refuted_bad f read in
             at_wrong {A = Option Refutation} _ (f ∷ s) _ w same (record {
@@ -233,7 +234,7 @@ module _ (p : Listing) (names : List (List ℕ)) (comps : Partition) (a : ℕ) w
         go (Some None) read same = err_ok w (None, f ∷ s) (sym same)
         go (Some (Some n)) read same =
             let (begins, some) = refuted_taken (pred_text p names a) 0 f n read in
-            let b = points_ends p comps a n (0, 0) 0 s w (mapped_err (with_made (λ xs. Some (record { points = xs }))) (read_points p comps a (0, 0) n s) w same) in
+            let b = points_ends p comps a n (0, 0) 0 s w (mapped_err (with_made (λ xs. Some (record { points = xs }))) (read_points (read_point p comps a) (0, 0) n s) w same) in
             after_read _ (f ∷ s) (fact.Refuted (pred_text p names a) n ∷ []) s w (ap (λ z. z ∷ s) begins)
             (ends_weaker _ _ s w (some_pairs n some s w b) (λ l g. (g.0, n, ap (λ z. fact.Refuted (pred_text p names a) n ∷ z) g.1, g.2)))
 
@@ -257,7 +258,7 @@ module _ (p : Listing) (names : List (List ℕ)) (comps : Partition) (levels : L
   refutation_ends : (a : ℕ) (s : List Fact) (w : Wrong) → read_refutation p names comps levels a s ≡ Err w
       → Ends (λ l. (r : Refutation) × (count : ℕ) × (l ≡ fact.Refuted (pred_text p names a) count ∷ facts_from 0 (λ _ x. point_facts x) r.points) × (length r.points ≤ count)
       × IsRefutation p comps levels a (Some r)) s w
-  unfolding read_refutation
+  unfolding refutation_by
   refutation_ends a s w e = go (is_open comps levels a) refl e
     where
       go : (b : Bool) → is_open comps levels a ≡ b → (if b then read_group p names comps a s else Ok (None, s)) ≡ Err w

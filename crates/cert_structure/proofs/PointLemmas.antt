@@ -1,5 +1,5 @@
 -- Reading a refutation: what is read is listed so, and what is listed so is read.
-use Rattle.std.proofs.Common.{◌≡◌, ◌≢◌, ℕ, zero, suc, ◌≤◌, ◌⊎◌, inl, inr, Bool, true, false, ◌&&◌, ◌||◌, ◌==◌, if◌then◌else◌, nat_lt, List, [], ◌∷◌, ◌++◌, length, Option, Some, None, Ok, refl, ap, sym, ◌∙◌, subst, arith, eqb-true, eq-eqb, lt-ltb, ltb-true, append_assoc}
+use Rattle.std.proofs.Common.{◌≡◌, ◌≢◌, ℕ, ◌⊎◌, inl, inr, Bool, true, false, ◌&&◌, ◌||◌, ◌==◌, if◌then◌else◌, nat_lt, List, ◌++◌, length, Option, Some, None, Ok, refl, ap, sym, ◌∙◌, subst, eqb-true, eq-eqb, lt-ltb, ltb-true}
 use Rattle.std.proofs.lemmas.Bool.{false≢true, and_parts}
 use Rattle.std.proofs.lemmas.Bool.Decides.{Decides-int_eq}
 use Rattle.std.proofs.lemmas.Option.{none-some}
@@ -14,16 +14,17 @@ use Rattle.number_tests.specs.declared.level_part.LevelPart.{LevelPart}
 use Rattle.linear_rows.specs.declared.point.Point.{Point}
 use Rattle.number_tests.specs.declared.pair_point.PairPoint.{PairPoint}
 use Rattle.number_tests.specs.declared.refutation.Refutation.{Refutation}
-use Rattle.cert_structure.specs.declared.refutations.FirstPoint.{FirstPoint}
-use Rattle.fact_reading.specs.Numbered.{facts_from}
+use Rattle.cert_structure.specs.declared.points.FirstPoint.{FirstPoint}
 use Rattle.cert_structure.specs.Order.{pred_text, at_facts, point_facts, refutation_facts}
-use Rattle.cert_structure.specs.Shape.{vars_of, items_of, first_of, is_recursive, is_pair, IsBefore, place_of_pair, PairsAscend, IsPoint, HasSecond, IsPairPoint, IsOpen, IsRefutation}
-use Rattle.cert_structure.specs.Walk.{is_amount, are_amounts, is_before, pair_end, paired, point_read, pair_point, take_point, take_second, take_refuted, read_second, read_point, read_points, read_group, refutation_read, is_open, read_refutation}
-use Rattle.fact_reading.specs.Walk.{Taken, result_map, with_first, read_next}
+use Rattle.cert_structure.specs.Shape.{vars_of, is_pair, IsBefore, place_of_pair, IsPoint, HasSecond, IsPairPoint, IsRefutation}
+use Rattle.cert_structure.specs.Walk.{is_amount, are_amounts, is_before, pair_end, paired, point_read, pair_point, take_point, take_second, take_refuted, read_second, read_point, read_refutation}
+use Rattle.fact_reading.specs.Walk.{Taken, result_map, read_next}
 use Rattle.cert_structure.proofs.KindLemmas.{split_point, split_second, IsPoint as IsPointFact, IsAt}
-use Rattle.fact_reading.proofs.SectionLemmas.{same_some, same_ok, err_ok, bound, mapped, IsTaken, IsBack, next_sound, next_back}
+use Rattle.fact_reading.proofs.SectionLemmas.{same_some, same_ok, bound, mapped, IsTaken, IsBack, next_sound, next_back}
+use Rattle.cert_structure.proofs.GroupLemmas as laws
 use Rattle.cert_structure.proofs.ContentLemmas.{other_taken, placed, kept_is, amount_is, amount_back, amounts_are, amounts_back}
 use Rattle.cert_structure.proofs.TakeLemmas.{refuted_taken, refuted_given}
+use Rattle.cert_structure.specs.SharedFacts.{shared}
 
 -- pairs in order
 pub before_is : (q r : ℕ × ℕ) → is_before q r ≡ true → IsBefore q r
@@ -33,7 +34,7 @@ before_is q r e = go (nat_lt q.0 r.0) refl e
     go true less h = inl (ltb-true q.0 r.0 less)
     go false less h = let (same, call) = and_parts (q.0 == r.0) (nat_lt q.1 r.1) h in inr (eqb-true q.0 r.0 same, ltb-true q.1 r.1 call)
 
-before_back : (q r : ℕ × ℕ) → IsBefore q r → is_before q r ≡ true
+pub before_back : (q r : ℕ × ℕ) → IsBefore q r → is_before q r ≡ true
 before_back q r (inl h) = rw (lt-ltb q.0 r.0 h) refl
 before_back q r (inr h) = go (nat_lt q.0 r.0)
   where
@@ -42,14 +43,14 @@ before_back q r (inr h) = go (nat_lt q.0 r.0)
     go false = rw (eq-eqb q.0 r.0 h.0, lt-ltb q.1 r.1 h.1) refl
 
 -- points
-point_is : (vars : ℕ) (t : ℤ) (w : List ℤ) (x : Point) → point_read vars t w ≡ Some (Some x) → (record { t = t; w = w } ≡ x) × IsPoint vars x
+pub point_is : (vars : ℕ) (t : ℤ) (w : List ℤ) (x : Point) → point_read vars t w ≡ Some (Some x) → (record { t = t; w = w } ≡ x) × IsPoint vars x
 point_is vars t w x e =
     let (right, same) = kept_is ((length w == vars) && (is_amount t && are_amounts w)) (record { t = t; w = w }) x e in
     let (wide, more) = and_parts (length w == vars) (is_amount t && are_amounts w) right in
     let (one, others) = and_parts (is_amount t) (are_amounts w) more in
     rw (← same) (refl, (eqb-true (length w) vars wide, amount_is t one, amounts_are w others))
 
-point_back : (vars : ℕ) (x : Point) → IsPoint vars x → point_read vars x.t x.w ≡ Some (Some x)
+pub point_back : (vars : ℕ) (x : Point) → IsPoint vars x → point_read vars x.t x.w ≡ Some (Some x)
 point_back vars x h = rw (eq-eqb (length x.w) vars h.0, amount_back x.t h.1, amounts_back x.w h.2) refl
 
 abbrev first_point : ℕ → ℕ → Point → FirstPoint
@@ -107,7 +108,7 @@ second_taken pair vars i f y e = go (split_second f)
         let own : t ≡ y.t = ap (λ z. z.t) whole in
         (rw (is, eqb-true clause pair.0 one, eqb-true call pair.1 two, ← whole) refl, (right, λ null. not_zero (own ∙ null)))
 
-not_null : (t : ℤ) → t ≢ pos 0 → int_eq t (pos 0) ≡ false
+pub not_null : (t : ℤ) → t ≢ pos 0 → int_eq t (pos 0) ≡ false
 not_null t h = go (int_eq t (pos 0)) refl
   where
     go : (b : Bool) → int_eq t (pos 0) ≡ b → b ≡ false
@@ -180,115 +181,12 @@ module _ (p : Listing) (comps : Partition) (a : ℕ) where
         second_back p (first_point y.clause y.call y.point) y.at t h.second,
       ) refl
 
-  points_sound : (n : ℕ) (last : ℕ × ℕ) (i : ℕ) (s t : List Fact) (xs : List PairPoint) → read_points p comps a last n s ≡ Ok (xs, t)
-      → (s ≡ facts_from i (λ _ x. point_facts x) xs ++ t) × (length xs ≡ n) × PairsAscend last xs × AllByRecursion (IsPairPoint p comps a) xs
-  unfolding read_points
-  points_sound zero last i s t xs e =
-      let both : ([], s) ≡ (xs, t) = same_ok _ _ e in
-      let first : [] ≡ xs = ap (λ q. q.0) both in
-      let rest : s ≡ t = ap (λ q. q.1) both in
-      rw (← first, ← rest) (refl, refl, tt, tt)
-  points_sound (suc n) last i s t xs e =
-      bound (λ x. result_map (with_first x.0) (read_points p comps a (x.0.clause, x.0.call) n x.1)) (read_point p comps a last s) (xs, t) e λ q read more.
-      mapped (with_first q.0) (read_points p comps a (q.0.clause, q.0.call) n q.1) (xs, t) more λ r here both.
-      let (one, before, right) = point_sound last s q.1 q.0 read in
-      let (others, count, ascend, all) = points_sound n (q.0.clause, q.0.call) (suc i) q.1 r.1 r.0 here in
-      let first : q.0 ∷ r.0 ≡ xs = ap (λ z. z.0) both in
-      let rest : r.1 ≡ t = ap (λ z. z.1) both in
-      rw (← first, ← rest)
-      (one ∙ ap (λ u. point_facts q.0 ++ u) others ∙ sym (append_assoc (point_facts q.0) (facts_from (suc i) (λ _ x. point_facts x) r.0) r.1), ap suc count, (before, ascend), (right, all))
-
-  points_given : (n : ℕ) (last : ℕ × ℕ) (i : ℕ) (xs : List PairPoint) (t : List Fact) → length xs ≡ n → PairsAscend last xs → AllByRecursion (IsPairPoint p comps a) xs
-      → read_points p comps a last n (facts_from i (λ _ x. point_facts x) xs ++ t) ≡ Ok (xs, t)
-  unfolding read_points
-  points_given zero last i [] t count ascend all = refl
-  points_given zero last i (x ∷ xs) t count ascend all = absurd (omega (arith, count))
-  points_given (suc n) last i [] t count ascend all = absurd (omega (arith, count))
-  points_given (suc n) last i (x ∷ xs) t count ascend all =
-      rw (
-        append_assoc (point_facts x) (facts_from (suc i) (λ _ x. point_facts x) xs) t,
-        point_given last x (facts_from (suc i) (λ _ x. point_facts x) xs ++ t) ascend.0 all.0,
-        points_given n (place_of_pair x) (suc i) xs t (omega (arith, count)) ascend.1 all.1,
-      ) refl
-
-abbrev as_refutation : List PairPoint × List Fact → Option Refutation × List Fact
-as_refutation x = (Some (record { points = x.0 }), x.1)
-
--- a refutation as it stands, whatever the component
-abbrev IsGroup : Listing → Partition → ℕ → Option Refutation → Type 0
-IsGroup p comps a None = Unit {0}
-IsGroup p comps a (Some r) = (1 ≤ length r.points) × PairsAscend (0, 0) r.points × AllByRecursion (IsPairPoint p comps a) r.points
-
-module _ (p : Listing) (names : List (List ℕ)) (comps : Partition) (a : ℕ) where
-  group_sound : (s t : List Fact) (o : Option Refutation) → read_group p names comps a s ≡ Ok (o, t)
-      → (s ≡ refutation_facts (pred_text p names a) o ++ t) × IsGroup p comps a o
-  unfolding read_group
-  group_sound [] t o e =
-      let both : (None, []) ≡ (o, t) = same_ok _ _ e in
-      let first : None ≡ o = ap (λ q. q.0) both in
-      let rest : [] ≡ t = ap (λ q. q.1) both in
-      rw (← first, ← rest) (refl, tt)
-  group_sound (f ∷ s) t o e = go (take_refuted (pred_text p names a) 0 f) refl e
-    where
-      go : (c : Taken ℕ) → take_refuted (pred_text p names a) 0 f ≡ c → refutation_read (λ n. read_points p comps a (0, 0) n s) f s c ≡ Ok (o, t)
-          → (f ∷ s ≡ refutation_facts (pred_text p names a) o ++ t) × IsGroup p comps a o
-      go None taken read = err_ok _ (o, t) read
-      go (Some None) taken read =
-          let both : (None, f ∷ s) ≡ (o, t) = same_ok _ _ read in
-          let first : None ≡ o = ap (λ q. q.0) both in
-          let rest : f ∷ s ≡ t = ap (λ q. q.1) both in
-          rw (← first, ← rest) (refl, tt)
-      go (Some (Some n)) taken read =
-          mapped as_refutation (read_points p comps a (0, 0) n s) (o, t) read λ q here both.
-          let (begins, some) = refuted_taken (pred_text p names a) 0 f n taken in
-          let (others, count, ascend, all) = points_sound p comps a n (0, 0) 0 s q.1 q.0 here in
-          let first : Some (record { points = q.0 }) ≡ o = ap (λ z. z.0) both in
-          let rest : q.1 ≡ t = ap (λ z. z.1) both in
-          rw (← first, ← rest) (rw (begins, others, ← count) refl, (rw (← count) at some, ascend, all))
-
-  group_given : (t : List Fact) (o : Option Refutation) → IsGroup p comps a o → AllByRecursion (λ f. take_refuted (pred_text p names a) 0 f ≡ Some None) t
-      → read_group p names comps a (refutation_facts (pred_text p names a) o ++ t) ≡ Ok (o, t)
-  unfolding read_group
-  group_given [] None h others = refl
-  group_given (f ∷ t) None h others = rw others.0 refl
-  group_given t (Some r) h others =
-      rw (refuted_given (pred_text p names a) 0 (length r.points) h.0, points_given p comps a (length r.points) (0, 0) 0 r.points t refl h.1 h.2) refl
-
-pub open_is : (comps : Partition) (levels : List (List LevelPart)) (a : ℕ) → is_open comps levels a ≡ true → IsOpen comps levels a
-open_is comps levels a e =
-    let (one, more) = and_parts (is_recursive comps a) ((first_of comps a == a) && (length (items_of levels a) == 0)) e in
-    let (two, three) = and_parts (first_of comps a == a) (length (items_of levels a) == 0) more in
-    record { recursive = one; first = eqb-true (first_of comps a) a two; none = eqb-true (length (items_of levels a)) 0 three }
-
-pub open_back : (comps : Partition) (levels : List (List LevelPart)) (a : ℕ) → IsOpen comps levels a → is_open comps levels a ≡ true
-open_back comps levels a h = rw (h.recursive, eq-eqb (first_of comps a) a h.first, eq-eqb (length (items_of levels a)) 0 h.none) refl
-
 module _ (p : Listing) (names : List (List ℕ)) (comps : Partition) (levels : List (List LevelPart)) (a : ℕ) where
   pub refutation_sound : (s t : List Fact) (o : Option Refutation) → read_refutation p names comps levels a s ≡ Ok (o, t)
       → (s ≡ refutation_facts (pred_text p names a) o ++ t) × IsRefutation p comps levels a o
-  unfolding read_refutation
-  refutation_sound s t o e = go (is_open comps levels a) refl e
-    where
-      shaped : (o : Option Refutation) → is_open comps levels a ≡ true → IsGroup p comps a o → IsRefutation p comps levels a o
-      shaped None opened h = tt
-      shaped (Some r) opened h = (open_is comps levels a opened, h.0, h.1, h.2)
-
-      go : (b : Bool) → is_open comps levels a ≡ b → (if b then read_group p names comps a s else Ok (None, s)) ≡ Ok (o, t)
-          → (s ≡ refutation_facts (pred_text p names a) o ++ t) × IsRefutation p comps levels a o
-      go true opened read = let (whole, right) = group_sound p names comps a s t o read in (whole, shaped o opened right)
-      go false opened read =
-          let both : (None, s) ≡ (o, t) = same_ok _ _ read in
-          let first : None ≡ o = ap (λ q. q.0) both in
-          let rest : s ≡ t = ap (λ q. q.1) both in
-          rw (← first, ← rest) (refl, tt)
+  refutation_sound = laws.refutation_sound shared (λ pred n. fact.Refuted pred n) point_facts (IsPairPoint p comps a) (read_point p comps a) refuted_taken (point_sound p comps a) p names comps levels a
 
   pub refutation_given : (t : List Fact) (o : Option Refutation) → IsRefutation p comps levels a o
       → AllByRecursion (λ f. take_refuted (pred_text p names a) 0 f ≡ Some None) t
       → read_refutation p names comps levels a (refutation_facts (pred_text p names a) o ++ t) ≡ Ok (o, t)
-  unfolding read_refutation
-  refutation_given t None h others = go (is_open comps levels a)
-    where
-      go : (b : Bool) → (if b then read_group p names comps a t else Ok (None, t)) ≡ Ok (None, t)
-      go true = group_given p names comps a t None tt others
-      go false = refl
-  refutation_given t (Some r) h others = rw (open_back comps levels a h.0, group_given p names comps a t (Some r) (h.1, h.2, h.3) others) refl
+  refutation_given = laws.refutation_given shared (λ pred n. fact.Refuted pred n) point_facts (IsPairPoint p comps a) (read_point p comps a) refuted_given (point_given p comps a) p names comps levels a

@@ -63,10 +63,13 @@ at_facts clause call (Some x) = fact.At clause call x.t x.w ∷ []
 abbrev pub point_facts : PairPoint → List Fact
 point_facts x = fact.Point x.clause x.call x.point.t x.point.w ∷ at_facts x.clause x.call x.at
 
--- a refutation, if there is one
+-- the facts of points, if there are any: one that says how many there are, then those of each
+abbrev pub counted_points : {F : Type 0} → (ℕ → F) → (ℕ → PairPoint → List F) → Option Refutation → List F
+counted_points count facts None = []
+counted_points count facts (Some r) = count (length r.points) ∷ facts_from 0 facts r.points
+
 abbrev pub refutation_facts : PredText → Option Refutation → List Fact
-refutation_facts pred None = []
-refutation_facts pred (Some r) = fact.Refuted pred (length r.points) ∷ facts_from 0 (λ _ x. point_facts x) r.points
+refutation_facts pred r = counted_points (λ n. fact.Refuted pred n) (λ _ x. point_facts x) r
 
 -- the facts of each predicate, of each clause
 module _ (p : Listing) (names : List (List ℕ)) where

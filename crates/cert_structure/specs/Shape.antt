@@ -115,16 +115,20 @@ pub record IsPairPoint (p : Listing) (comps : Partition) (a : ℕ) (x : PairPoin
   pub point : IsPoint (vars_of (numbered p.clauses x.clause)) x.point
   pub second : HasSecond (vars_of (numbered p.clauses x.clause)) x.point.t x.at
 
--- the first predicate of a recursive component without mappings
-pub record IsOpen (comps : Partition) (levels : List (List LevelPart)) (a : ℕ) : Type 0 where
+-- the first predicate of a recursive component for which there are no mappings, or no lists
+pub record IsOpen {A : Type 0} (comps : Partition) (levels : List (List A)) (a : ℕ) : Type 0 where
   pub recursive : IsTrue (is_recursive comps a)
   pub first : first_of comps a ≡ a
   pub none : length (items_of levels a) ≡ 0
 
+-- points of pairs, one at least, in the order of the pairs; only where there are no mappings, or no lists
+abbrev pub HasPoints : {A : Type 0} → (PairPoint → Type 0) → Partition → List (List A) → ℕ → Option Refutation → Type 0
+HasPoints IsRight comps levels a None = Unit {0}
+HasPoints IsRight comps levels a (Some r) =
+    IsOpen comps levels a × (1 ≤ length r.points) × PairsAscend (0, 0) r.points × AllByRecursion IsRight r.points
+
 abbrev pub IsRefutation : Listing → Partition → List (List LevelPart) → ℕ → Option Refutation → Type 0
-IsRefutation p comps levels a None = Unit {0}
-IsRefutation p comps levels a (Some r) =
-    IsOpen comps levels a × (1 ≤ length r.points) × PairsAscend (0, 0) r.points × AllByRecursion (IsPairPoint p comps a) r.points
+IsRefutation p comps levels a r = HasPoints (IsPairPoint p comps a) comps levels a r
 
 -- the parts have the shape that the program and its components ask
 pub record HaveShape (p : Listing) (comps : Partition) (parts : Parts) : Type 0 where

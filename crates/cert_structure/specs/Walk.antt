@@ -27,7 +27,7 @@ use Rattle.cert_structure.specs.declared.parts.Parts.{Parts}
 use Rattle.fact_reading.specs.declared.stop.StructureReason.TheVariants as reason
 use Rattle.cert_structure.specs.declared.named.Named.{Named}
 use Rattle.cert_structure.specs.declared.pair.Pair.{Pair}
-use Rattle.cert_structure.specs.declared.refutations.FirstPoint.{FirstPoint}
+use Rattle.cert_structure.specs.declared.points.FirstPoint.{FirstPoint}
 use Rattle.fact_reading.specs.declared.stop.FactFault.{FactFault}
 use Rattle.fact_reading.specs.declared.stop.FactFault.TheVariants as fault
 use Rattle.fact_reading.specs.declared.stop.Stop.{Stop}
@@ -192,27 +192,23 @@ read_second p x s =
 unfoldable pub read_point : Listing → Partition → ℕ → ℕ × ℕ → List Fact → Read Fact PairPoint
 read_point p comps a last s = read_next (take_point p comps a last) 0 s >>= λ x. read_second p x.0 x.1
 
-unfoldable pub read_points : Listing → Partition → ℕ → ℕ × ℕ → ℕ → List Fact → Read Fact (List PairPoint)
-read_points p comps a last zero s = Ok ([], s)
-read_points p comps a last (suc n) s =
-    read_point p comps a last s >>= λ x. result_map (with_first x.0) (read_points p comps a (x.0.clause, x.0.call) n x.1)
+-- how the next pair with its points is read, after another pair
+abbrev pub ReadsPoint : Type 0 → Type 0
+ReadsPoint F = ℕ × ℕ → List F → Read F PairPoint
 
--- the refutation that a fact begins
-abbrev pub refutation_read : (ℕ → Read Fact (List PairPoint)) → Fact → List Fact → Taken ℕ → Read Fact (Option Refutation)
-refutation_read points f s None = wrong_at (f ∷ s) reason.Shape
-refutation_read points f s (Some None) = Ok (None, f ∷ s)
-refutation_read points f s (Some (Some n)) = result_map (λ x. (Some (record { points = x.0 }), x.1)) (points n)
+unfoldable pub read_points : {F : Type 0} → ReadsPoint F → ℕ × ℕ → ℕ → List F → Read F (List PairPoint)
+read_points point last zero s = Ok ([], s)
+read_points point last (suc n) s = point last s >>= λ x. result_map (with_first x.0) (read_points point (x.0.clause, x.0.call) n x.1)
 
-unfoldable pub read_group : Listing → List (List ℕ) → Partition → ℕ → List Fact → Read Fact (Option Refutation)
-read_group p names comps a [] = Ok (None, [])
-read_group p names comps a (f ∷ s) = refutation_read (λ n. read_points p comps a (0, 0) n s) f s (take_refuted (pred_text p names a) 0 f)
+-- the points that a fact begins
+abbrev pub points_read : {F : Type 0} → (ℕ → Read F (List PairPoint)) → F → List F → Taken ℕ → Read F (Option Refutation)
+points_read points f s None = wrong_at (f ∷ s) reason.Shape
+points_read points f s (Some None) = Ok (None, f ∷ s)
+points_read points f s (Some (Some n)) = result_map (λ x. (Some (record { points = x.0 }), x.1)) (points n)
 
--- whether the predicate is the first one of a recursive component without mappings
-abbrev pub is_open : Partition → List (List LevelPart) → ℕ → Bool
+-- whether the predicate is the first one of a recursive component without mappings, or without lists
+abbrev pub is_open : {A : Type 0} → Partition → List (List A) → ℕ → Bool
 is_open comps levels a = is_recursive comps a && ((first_of comps a == a) && (length (items_of levels a) == 0))
-
-unfoldable pub read_refutation : Listing → List (List ℕ) → Partition → List (List LevelPart) → ℕ → List Fact → Read Fact (Option Refutation)
-read_refutation p names comps levels a s = if is_open comps levels a then read_group p names comps a s else Ok (None, s)
 
 -- readers of facts of which only this is asked: what they say, where both kinds of certificates have such facts
 module _ {F : Type 0} (look : F → Shared) where
@@ -235,6 +231,14 @@ module _ {F : Type 0} (look : F → Shared) where
   -- one precondition for each mapping of a predicate, or for each list
   unfoldable pub pre_by : {A : Type 0} → Listing → List (List ℕ) → List (List A) → ℕ → List F → Read F (List (List (List Cell)))
   pre_by p names levels a s = read_each (cubes_by p names a) 0 (length (items_of levels a)) s
+
+  -- the points that the first fact begins, if it begins those of a predicate
+  unfoldable pub group_by : ReadsPoint F → PredText → List F → Read F (Option Refutation)
+  group_by point pred [] = Ok (None, [])
+  group_by point pred (f ∷ s) = points_read (λ n. read_points point (0, 0) n s) f s (shared_refuted pred 0 (look f))
+
+  unfoldable pub refutation_by : {A : Type 0} → ReadsPoint F → Listing → List (List ℕ) → Partition → List (List A) → ℕ → List F → Read F (Option Refutation)
+  refutation_by point p names comps levels a s = if is_open comps levels a then group_by point (pred_text p names a) s else Ok (None, s)
 
 abbrev pub read_modes : Listing → List (List ℕ) → ℕ → List Fact → Read Fact (List (List ℕ))
 read_modes p names a s = modes_by shared p names a s
@@ -280,6 +284,12 @@ read_cubes p names a m s = cubes_by shared p names a m s
 
 abbrev pub read_pre : Listing → List (List ℕ) → List (List LevelPart) → ℕ → List Fact → Read Fact (List (List (List Cell)))
 read_pre p names levels a s = pre_by shared p names levels a s
+
+abbrev pub read_group : Listing → List (List ℕ) → Partition → ℕ → List Fact → Read Fact (Option Refutation)
+read_group p names comps a s = group_by shared (read_point p comps a) (pred_text p names a) s
+
+abbrev pub read_refutation : Listing → List (List ℕ) → Partition → List (List LevelPart) → ℕ → List Fact → Read Fact (Option Refutation)
+read_refutation p names comps levels a s = refutation_by shared (read_point p comps a) p names comps levels a s
 
 unfoldable pub take_norm : ℕ → Fact → Taken CertNorm
 take_norm i (fact.Norm norm) = Some (Some norm)

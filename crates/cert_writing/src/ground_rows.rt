@@ -40,9 +40,9 @@ impl<F: FromShared> Writer<F> for GroundsOf<'_> {
 
 /// The ground rows of predicates.
 #[derive(Drop)]
-pub struct WrittenGrounds<'a> {
-    pub p: &'a Program,
-    pub names: &'a Names,
+pub(crate) struct WrittenGrounds<'a> {
+    pub(crate) p: &'a Program,
+    pub(crate) names: &'a Names,
 }
 
 impl<F: FromShared> Writer<F> for WrittenGrounds<'_> {

@@ -8,6 +8,7 @@
 mod fields;
 mod ground_rows;
 mod mappings;
+mod model;
 mod modes;
 mod preconditions;
 mod refutations;
@@ -17,10 +18,9 @@ mod writer;
 mod writing;
 
 pub use fields::{counted, numbers};
-pub use ground_rows::WrittenGrounds;
-pub use modes::WrittenModes;
+pub use model::WrittenModel;
 pub use preconditions::WrittenPreconditions;
+pub use refutations::WrittenRefutations;
 pub use shared_facts::FromShared;
-pub use size_rows::{WrittenProofs, WrittenSizes};
 pub use writer::{Writer, append, write_each};
 pub use writing::facts_of;

@@ -12,9 +12,9 @@ use std::alloc::{AllocError, Global};
 
 /// The modes of predicates.
 #[derive(Drop)]
-pub struct WrittenModes<'a> {
-    pub p: &'a Program,
-    pub names: &'a Names,
+pub(crate) struct WrittenModes<'a> {
+    pub(crate) p: &'a Program,
+    pub(crate) names: &'a Names,
 }
 
 impl<F: FromShared> Writer<F> for WrittenModes<'_> {

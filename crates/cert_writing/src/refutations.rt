@@ -1,8 +1,9 @@
-//! The facts of refutations.
+//! The facts of refutations, and of stuck sets.
 
-ghost use Rattle.cert_structure.specs.Order.{pred_text, point_facts, refutation_facts};
+ghost use Rattle.cert_structure.specs.Order.{counted_points, pred_text, point_facts};
 
 use crate::fields::numbers;
+use crate::shared_facts::FromShared;
 use crate::writer::{Writer, write_each};
 use cert_structure::Named;
 use certificate::Fact;
@@ -47,34 +48,34 @@ impl Writer<Fact> for Points {
     }
 }
 
-/// The refutations of components, by their first predicates.
+/// The refutations or the stuck sets of components, by their first predicates.
 #[derive(Drop)]
-pub(crate) struct Refutations<'a> {
-    pub(crate) p: &'a Program,
-    pub(crate) names: &'a Names,
+pub struct WrittenRefutations<'a, W> {
+    pub p: &'a Program,
+    pub names: &'a Names,
+    /// The writer of their points.
+    pub points: W,
 }
 
-impl Writer<Fact> for Refutations<'_> {
+impl<F: FromShared, W: Writer<F, Item = PairPoint>> Writer<F> for WrittenRefutations<'_, W> {
     type Item = Option<Refutation>;
 
-    ghost facts = { λ w a r. refutation_facts (pred_text w.p.now w.names.now a) r };
+    ghost facts = { λ w a r. counted_points (λ n. F.refuted_fact (pred_text w.p.now w.names.now a) n)
+        (W.facts w.points) r };
 
     fn write(
         &self,
         alloc: Global,
         number: u64,
         item: &Option<Refutation>,
-        out: &mut Sequence<Fact>,
+        out: &mut Sequence<F>,
     ) -> Result<(), AllocError> {
         let Some(refutation) = item else {
             return Ok(());
         };
-        let pred = Named::new(self.p, self.names, number);
-        let fact = Fact::Refuted {
-            pred: pred.text(alloc)?,
-            points: refutation.points.len() as u64,
-        };
-        out.push(fact)?;
-        write_each(alloc, &Points {}, refutation.points.as_slice(), out)
+        let points = refutation.points.as_slice();
+        let pred = Named::new(self.p, self.names, number).text(alloc)?;
+        out.push(F::refuted(pred, points.len() as u64))?;
+        write_each(alloc, &self.points, points, out)
     }
 }

@@ -23,6 +23,8 @@ pub trait FromShared: Drop {
 
     ghost pre_fact: { ThePred → ℕ → ℕ → List TheCell → Self };
 
+    ghost refuted_fact: { ThePred → ℕ → Self };
+
     /// The modes of a predicate, each a list of argument numbers.
     fn terminates(pred: PredText, modes: Sequence<Sequence<u32>>) -> Self
         ensures { result ≡ mode_fact pred modes };
@@ -42,6 +44,10 @@ pub trait FromShared: Drop {
     /// Rows of the precondition for a mapping, or for a list of mappings.
     fn pre(pred: PredText, mapping: u32, index: u64, cube: Sequence<CertCell>) -> Self
         ensures { result ≡ pre_fact pred mapping index cube };
+
+    /// The number of points that follow, which show that a predicate's component has no mapping, or no list.
+    fn refuted(pred: PredText, points: u64) -> Self
+        ensures { result ≡ refuted_fact pred points };
 }
 
 impl FromShared for Fact {
@@ -54,6 +60,8 @@ impl FromShared for Fact {
     ghost ground_fact = { λ pred index cube. fact.Grounds pred index cube };
 
     ghost pre_fact = { λ pred mapping index cube. fact.Pre pred mapping index cube };
+
+    ghost refuted_fact = { λ pred points. fact.Refuted pred points };
 
     fn terminates(pred: PredText, modes: Sequence<Sequence<u32>>) -> Fact {
         Fact::Terminates { pred, modes }
@@ -83,5 +91,9 @@ impl FromShared for Fact {
             index,
             cube,
         }
+    }
+
+    fn refuted(pred: PredText, points: u64) -> Fact {
+        Fact::Refuted { pred, points }
     }
 }

@@ -40,9 +40,9 @@ impl<F: FromShared> Writer<F> for SizeRowsOf<'_> {
 
 /// The size rows of predicates.
 #[derive(Drop)]
-pub struct WrittenSizes<'a> {
-    pub p: &'a Program,
-    pub names: &'a Names,
+pub(crate) struct WrittenSizes<'a> {
+    pub(crate) p: &'a Program,
+    pub(crate) names: &'a Names,
 }
 
 impl<F: FromShared> Writer<F> for WrittenSizes<'_> {
@@ -88,7 +88,7 @@ impl<F: FromShared> Writer<F> for ProofsOf {
 
 /// The proofs of clauses.
 #[derive(Drop)]
-pub struct WrittenProofs {}
+pub(crate) struct WrittenProofs {}
 
 impl<F: FromShared> Writer<F> for WrittenProofs {
     type Item = Sequence<Multipliers>;

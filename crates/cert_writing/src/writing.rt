@@ -2,14 +2,12 @@
 
 ghost use Rattle.std.specs.Prelude.{◌≡◌, ◌++◌, IfOk, OnOk};
 ghost use Rattle.cert_structure.specs.Order.{head_facts, listed};
-ghost use Rattle.cert_writing.specs.Written.{set_facts, mapping_facts};
+ghost use Rattle.cert_writing.specs.Written.{mapping_facts};
 
-use crate::ground_rows::WrittenGrounds;
 use crate::mappings::{Falls, Levels};
-use crate::modes::WrittenModes;
+use crate::model::WrittenModel;
 use crate::preconditions::WrittenPreconditions;
-use crate::refutations::Refutations;
-use crate::size_rows::{WrittenProofs, WrittenSizes};
+use crate::refutations::{Points, WrittenRefutations};
 use crate::writer::{append, write_each};
 use cert_structure::Parts;
 use certificate::{CertNorm, Certificate, Fact};
@@ -28,37 +26,6 @@ fn write_head(norm: Option<CertNorm>, out: &mut Sequence<Fact>) -> Result<(), Al
             out.push(Fact::Norm { norm })
         }
     }
-}
-
-/// Puts the facts of modes, size rows and their proofs, and ground rows after others.
-fn write_sets(
-    alloc: Global,
-    p: &Program,
-    names: &Names,
-    parts: &Parts,
-    out: &mut Sequence<Fact>,
-) -> Result<(), AllocError>
-    ensures { OnOk result (out.new ≡ out.old ++ set_facts p.now names.now parts.now) }
-{
-    write_each(
-        alloc,
-        &WrittenModes { p, names },
-        parts.modes.as_slice(),
-        out,
-    )?;
-    write_each(
-        alloc,
-        &WrittenSizes { p, names },
-        parts.rows.as_slice(),
-        out,
-    )?;
-    write_each(alloc, &WrittenProofs {}, parts.row_proofs.as_slice(), out)?;
-    write_each(
-        alloc,
-        &WrittenGrounds { p, names },
-        parts.grounds.as_slice(),
-        out,
-    )
 }
 
 /// Puts the facts of mappings, their falls and preconditions, and refutations after others.
@@ -81,7 +48,11 @@ fn write_mappings(
     )?;
     write_each(
         alloc,
-        &Refutations { p, names },
+        &WrittenRefutations {
+            p,
+            names,
+            points: Points {},
+        },
         parts.refutations.as_slice(),
         out,
     )
@@ -100,7 +71,13 @@ pub fn facts_of(
 {
     let mut facts = Sequence::new(alloc);
     write_head(parts.norm, &mut facts)?;
-    write_sets(alloc, p, names, parts, &mut facts)?;
+    let model = WrittenModel {
+        modes: parts.modes.as_slice(),
+        rows: parts.rows.as_slice(),
+        row_proofs: parts.row_proofs.as_slice(),
+        grounds: parts.grounds.as_slice(),
+    };
+    model.write(alloc, p, names, &mut facts)?;
     write_mappings(alloc, p, names, parts, &mut facts)?;
     append(notes, &mut facts)?;
     Ok(Certificate { facts })

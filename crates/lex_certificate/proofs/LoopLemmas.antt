@@ -6,15 +6,14 @@ use Rattle.cert_structure.proofs.LoopLemmas.{atom_at}
 use Rattle.certificate.specs.declared.pred_text.PredText.{PredText}
 use Rattle.cti_terms.specs.declared.atom_list.Atom.{Atom}
 use Rattle.cti_terms.specs.Listing.{Listing}
-use Rattle.fact_reading.specs.Walk.{Wrong, with_all, read_next, read_many}
+use Rattle.fact_reading.specs.Walk.{Wrong, with_all, read_many}
 use Rattle.fact_reading.proofs.LoopLemmas.{one_more}
 use Rattle.linear_rows.specs.declared.multipliers.Multipliers.{Multipliers}
 use Rattle.linear_rows.specs.declared.row.Rows.{Rows}
 use Rattle.number_tests.specs.declared.level_part.LevelPart.{LevelPart}
-use Rattle.number_tests.specs.declared.pair_point.PairPoint.{PairPoint}
 use Rattle.lex_certificate.specs.declared.fact.LexFact.{LexFact}
 use Rattle.lex_certificate.specs.Shape.{lists_of_call}
-use Rattle.lex_certificate.specs.Walk.{take_level, take_point, read_lists, read_own, read_levels, read_points, read_call, read_calls}
+use Rattle.lex_certificate.specs.Walk.{take_level, read_lists, read_own, read_levels, read_call, read_calls}
 
 -- the lists that are read as long as there is a first measure
 module _ (pred : PredText) (xs : List (List LevelPart)) (m n : ℕ) (s : List LexFact) where
@@ -51,20 +50,6 @@ module _ (p : Listing) (names : List (List ℕ)) (comps : Partition) (earlier : 
       → read_levels p names comps (earlier ++ x ∷ []) b n t ≡ read_levels p names comps earlier a m s
   unfolding read_levels
   levels_more n b x t e next read = rw (e, next, read) refl
-
-module _ (p : Listing) (comps : Partition) (a : ℕ) (xs : List PairPoint) (last : ℕ × ℕ) (m : ℕ) (s : List LexFact) where
-  pub points_end : m ≡ 0 → with_all xs (read_points p comps a last m s) ≡ Ok (xs, s)
-  unfolding read_points
-  points_end e = rw (e, append-nil xs) refl
-
-  pub points_err : (n : ℕ) (w : Wrong) → m ≡ suc n → read_next (take_point p comps a last) 0 s ≡ Err w → with_all xs (read_points p comps a last m s) ≡ Err w
-  unfolding read_points
-  points_err n w e bad = rw (e, bad) refl
-
-  pub points_more : (n : ℕ) (x : PairPoint) (t : List LexFact) → m ≡ suc n → read_next (take_point p comps a last) 0 s ≡ Ok (x, t)
-      → with_all (xs ++ x ∷ []) (read_points p comps a (x.clause, x.call) n t) ≡ with_all xs (read_points p comps a last m s)
-  unfolding read_points
-  points_more n x t e read = rw (e, read) (one_more xs x (read_points p comps a (x.clause, x.call) n t))
 
 module _ (comps : Partition) (rows : List Rows) (lists : List (List (List LevelPart))) (head k : ℕ) (xs : List (List (List Multipliers))) (j before : ℕ) (body : List Atom) (s : List LexFact) where
   pub calls_end : length body ≤ j → with_all xs (read_calls comps rows lists head k j before (drop j body) s) ≡ Ok (xs, s)

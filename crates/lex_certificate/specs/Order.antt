@@ -2,9 +2,9 @@
 -- The facts of parts, in the order of the format.
 --
 -- To believe: all of this file.
-use Rattle.std.specs.Prelude.{ℕ, suc, pos, Bool, true, false, List, [], ◌∷◌, ◌++◌, map, length, Option, None, Some}
+use Rattle.std.specs.Prelude.{ℕ, suc, pos, Bool, true, false, List, [], ◌∷◌, ◌++◌, map, Option}
 use Rattle.bool_diagrams.specs.declared.cube.Cell.{Cell}
-use Rattle.cert_structure.specs.Order.{pred_text, cell_of}
+use Rattle.cert_structure.specs.Order.{pred_text, cell_of, counted_points}
 use Rattle.certificate.specs.declared.pred_text.PredText.{PredText}
 use Rattle.cti_terms.specs.Listing.{Listing}
 use Rattle.linear_rows.specs.declared.multipliers.Multipliers.{Multipliers}
@@ -40,10 +40,8 @@ pre_line pred m i cube = lex.Pre pred (suc m) (suc i) (map cell_of cube)
 abbrev pub point_line : PairPoint → LexFact
 point_line x = lex.Point x.clause x.call x.point.t x.point.w
 
--- a stuck set, if there is one
 abbrev pub stuck_lines : PredText → Option Refutation → List LexFact
-stuck_lines pred None = []
-stuck_lines pred (Some r) = lex.Refuted pred (length r.points) ∷ lines_from 0 (λ _ x. point_line x) r.points
+stuck_lines pred r = counted_points (λ n. lex.Refuted pred n) (λ _ x. point_line x ∷ []) r
 
 -- the facts of each predicate
 module _ (p : Listing) (names : List (List ℕ)) where

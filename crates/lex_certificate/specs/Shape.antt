@@ -2,15 +2,14 @@
 -- The shape of parts: how many there are, how wide they are, and in which ranges their numbers are.
 --
 -- To believe: all of this file. Predicates, clauses, calls, rows, lists and measures are numbered from 0 here.
-use Rattle.std.specs.Prelude.{◌≡◌, ◌≢◌, ℕ, ◌≤◌, pos, IsTrue, if◌then◌else◌, List, [], ◌∷◌, map, take, length, Option, None, Some, slice_get}
+use Rattle.std.specs.Prelude.{◌≡◌, ◌≢◌, ℕ, ◌≤◌, pos, IsTrue, if◌then◌else◌, List, [], ◌∷◌, map, take, length, Option, None, slice_get}
 use Rattle.std.specs.List.{AllByRecursion}
 use Rattle.call_components.specs.Partition.{Partition}
 use Rattle.fact_reading.specs.Numbered.{AreEach}
-use Rattle.cert_structure.specs.Shape.{HaveMultipliers, HasWidth, IsLevel, IsMode, IsPoint, IsSizeRow, arity_in, body_of, first_of, head_of, is_own_call, is_pair, is_recursive, items_of, rows_of, rows_of_atoms, vars_of}
+use Rattle.cert_structure.specs.Shape.{HaveMultipliers, HasPoints, HasWidth, IsLevel, IsMode, IsPoint, IsSizeRow, arity_in, body_of, first_of, head_of, is_own_call, is_pair, is_recursive, items_of, rows_of, rows_of_atoms, vars_of}
 use Rattle.cti_terms.specs.Listing.{Listing, numbered}
 use Rattle.cti_terms.specs.declared.atom_list.Atom.{Atom}
 use Rattle.linear_rows.specs.declared.multipliers.Multipliers.{Multipliers}
-use Rattle.number_tests.specs.Shape.{PairsAscend}
 use Rattle.number_tests.specs.declared.level_part.LevelPart.{LevelPart}
 use Rattle.number_tests.specs.declared.pair_point.PairPoint.{PairPoint}
 use Rattle.number_tests.specs.declared.refutation.Refutation.{Refutation}
@@ -45,16 +44,8 @@ pub record IsStuckPoint (p : Listing) (comps : Partition) (a : ℕ) (x : PairPoi
   pub positive : x.point.t ≢ pos 0
   pub single : x.at ≡ None
 
--- the first predicate of a recursive component without lists
-pub record IsOpen (comps : Partition) (lists : List (List (List LevelPart))) (a : ℕ) : Type 0 where
-  pub recursive : IsTrue (is_recursive comps a)
-  pub first : first_of comps a ≡ a
-  pub none : length (items_of lists a) ≡ 0
-
 abbrev pub IsStuckSet : Listing → Partition → List (List (List LevelPart)) → ℕ → Option Refutation → Type 0
-IsStuckSet p comps lists a None = Unit {0}
-IsStuckSet p comps lists a (Some r) =
-    IsOpen comps lists a × (1 ≤ length r.points) × PairsAscend (0, 0) r.points × AllByRecursion (IsStuckPoint p comps a) r.points
+IsStuckSet p comps lists a r = HasPoints (IsStuckPoint p comps a) comps lists a r
 
 -- the parts have the shape that the program and its components ask
 pub record HaveShape (p : Listing) (comps : Partition) (parts : LexParts) : Type 0 where

@@ -1,6 +1,6 @@
 -- Private.
 -- How the parts are read: fact by fact, from the front. Nothing here has to be believed.
-use Rattle.std.specs.Prelude.{ℕ, zero, suc, ◌+◌, ℤ, pos, Bool, ◌&&◌, ◌==◌, nat_le, if◌then◌else◌, List, [], ◌∷◌, ◌++◌, length, Option, None, Some, option_map, Ok, Err}
+use Rattle.std.specs.Prelude.{ℕ, zero, suc, ◌+◌, ℤ, pos, ◌&&◌, ◌==◌, nat_le, if◌then◌else◌, List, [], ◌∷◌, ◌++◌, length, Option, None, Some, option_map, Ok, Err}
 use Rattle.std.specs.Ordering.{int_eq}
 use Rattle.std.specs.List.{list_all}
 use Rattle.bool_diagrams.specs.declared.cube.Cell.{Cell}
@@ -9,7 +9,7 @@ use Rattle.cert_structure.specs.Order.{pred_text}
 use Rattle.cert_structure.specs.Shape.{head_of, body_of, vars_of, rows_of, items_of, is_recursive, first_of, is_pair}
 use Rattle.cert_structure.specs.SharedFacts.{Shared}
 use Rattle.cert_structure.specs.SharedFacts as says
-use Rattle.cert_structure.specs.Walk.{kept, at_place, same_pred, is_before, multipliers_read, level_read, point_read, shared_refuted, modes_by, rows_by, proofs_by, grounds_by, pre_by}
+use Rattle.cert_structure.specs.Walk.{kept, at_place, same_pred, is_before, multipliers_read, level_read, point_read, modes_by, rows_by, proofs_by, grounds_by, pre_by, refutation_by}
 use Rattle.certificate.specs.declared.pred_text.PredText.{PredText}
 use Rattle.cti_terms.specs.declared.atom_list.Atom.{Atom}
 use Rattle.cti_terms.specs.Listing.{Listing, numbered}
@@ -65,28 +65,6 @@ unfoldable pub take_point : Listing → Partition → ℕ → ℕ × ℕ → ℕ
 take_point p comps a last i (lex.Point clause call t w) =
     at_place (is_pair p comps a clause call && is_before last (clause, call)) (stuck_read clause call (vars_of (numbered p.clauses clause)) t w)
 take_point p comps a last i _ = Some None
-
-unfoldable pub read_points : Listing → Partition → ℕ → ℕ × ℕ → ℕ → List LexFact → Read LexFact (List PairPoint)
-read_points p comps a last zero s = Ok ([], s)
-read_points p comps a last (suc n) s =
-    read_next (take_point p comps a last) 0 s >>= λ x. result_map (with_first x.0) (read_points p comps a (x.0.clause, x.0.call) n x.1)
-
--- the stuck set that a fact begins
-abbrev pub set_read : (ℕ → Read LexFact (List PairPoint)) → LexFact → List LexFact → Taken ℕ → Read LexFact (Option Refutation)
-set_read points f s None = wrong_at (f ∷ s) reason.Shape
-set_read points f s (Some None) = Ok (None, f ∷ s)
-set_read points f s (Some (Some n)) = result_map (λ x. (Some (record { points = x.0 }), x.1)) (points n)
-
-unfoldable pub read_set : Listing → List (List ℕ) → Partition → ℕ → List LexFact → Read LexFact (Option Refutation)
-read_set p names comps a [] = Ok (None, [])
-read_set p names comps a (f ∷ s) = set_read (λ n. read_points p comps a (0, 0) n s) f s (shared_refuted (pred_text p names a) 0 (shared f))
-
--- whether the predicate is the first one of a recursive component without lists
-abbrev pub is_open : Partition → List (List (List LevelPart)) → ℕ → Bool
-is_open comps lists a = is_recursive comps a && ((first_of comps a == a) && (length (items_of lists a) == 0))
-
-unfoldable pub read_stuck : Listing → List (List ℕ) → Partition → List (List (List LevelPart)) → ℕ → List LexFact → Read LexFact (Option Refutation)
-read_stuck p names comps lists a s = if is_open comps lists a then read_set p names comps a s else Ok (None, s)
 
 abbrev pub read_modes : Listing → List (List ℕ) → ℕ → List LexFact → Read LexFact (List (List ℕ))
 read_modes p names a s = modes_by shared p names a s
@@ -155,6 +133,10 @@ read_drops p comps rows lists k s = read_calls comps rows lists (head_of p k) k 
 
 abbrev pub read_pre : Listing → List (List ℕ) → List (List (List LevelPart)) → ℕ → List LexFact → Read LexFact (List (List (List Cell)))
 read_pre p names lists a s = pre_by shared p names lists a s
+
+-- a stuck set, each point of which is one fact
+abbrev pub read_stuck : Listing → List (List ℕ) → Partition → List (List (List LevelPart)) → ℕ → List LexFact → Read LexFact (Option Refutation)
+read_stuck p names comps lists a s = refutation_by shared (λ last. read_next (take_point p comps a last) 0) p names comps lists a s
 
 -- the parts, and the notes after them
 unfoldable pub read_sections : Listing → List (List ℕ) → Partition → List LexFact → Read LexFact LexParts

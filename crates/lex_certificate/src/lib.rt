@@ -12,10 +12,10 @@ mod flat;
 mod list_certificate;
 mod lists;
 mod parts;
+mod points;
 mod printing;
 mod reading;
 mod shared_fact;
-mod stuck;
 mod writing;
 mod written_lists;
 

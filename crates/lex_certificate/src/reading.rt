@@ -19,9 +19,10 @@ use crate::fact::LexFact;
 use crate::list_certificate::LexCertificate;
 use crate::lists::levels_into;
 use crate::parts::LexParts;
-use crate::stuck::StuckSets;
 use call_components::Components;
-use cert_structure::{Calls, Grounds, Modes, Preconditions, PredRows, Proofs, rows_into};
+use cert_structure::{
+    Calls, Grounds, Modes, Preconditions, PredRows, Proofs, Refutations, rows_into,
+};
 use cti_terms::{Names, Program};
 use fact_reading::{FactFault, Kind, Stop, each_into, first_item};
 use std::alloc::{AllocError, Global};
@@ -89,10 +90,10 @@ fn fill<'a, 'f>(
         levels: parts.lists.as_slice(),
     };
     let stuck = each_into(alloc, &reader, preds, &mut parts.preconditions, cubes)?;
-    let reader = StuckSets {
+    let reader = Refutations {
         calls: *calls,
         names,
-        lists: parts.lists.as_slice(),
+        levels: parts.lists.as_slice(),
     };
     each_into(alloc, &reader, preds, &mut parts.stuck, stuck)
 }

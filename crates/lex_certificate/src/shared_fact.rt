@@ -70,6 +70,8 @@ impl FromShared for LexFact {
 
     ghost pre_fact = { λ pred list index cube. lex.Pre pred list index cube };
 
+    ghost refuted_fact = { λ pred points. lex.Refuted pred points };
+
     fn terminates(pred: PredText, modes: Sequence<Sequence<u32>>) -> LexFact {
         LexFact::Terminates { pred, modes }
     }
@@ -98,5 +100,9 @@ impl FromShared for LexFact {
             index,
             cube,
         }
+    }
+
+    fn refuted(pred: PredText, points: u64) -> LexFact {
+        LexFact::Refuted { pred, points }
     }
 }

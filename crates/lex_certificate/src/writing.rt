@@ -2,50 +2,16 @@
 
 ghost use Rattle.std.specs.Prelude.{◌≡◌, ◌++◌, IfOk, OnOk};
 ghost use Rattle.lex_certificate.specs.Order.{listed};
-ghost use Rattle.lex_certificate.specs.Written.{set_facts, list_facts};
+ghost use Rattle.lex_certificate.specs.Written.{list_facts};
 
 use crate::fact::LexFact;
 use crate::list_certificate::LexCertificate;
 use crate::parts::LexParts;
-use crate::written_lists::{WrittenDrops, WrittenLists, WrittenSets};
-use cert_writing::{
-    WrittenGrounds, WrittenModes, WrittenPreconditions, WrittenProofs, WrittenSizes, append,
-    write_each,
-};
+use crate::written_lists::{Points, WrittenDrops, WrittenLists};
+use cert_writing::{WrittenModel, WrittenPreconditions, WrittenRefutations, append, write_each};
 use cti_terms::{Names, Program};
 use sequences::Sequence;
 use std::alloc::{AllocError, Global};
-
-/// Puts the facts of modes, size rows and their proofs, and ground rows after others.
-fn write_sets(
-    alloc: Global,
-    p: &Program,
-    names: &Names,
-    parts: &LexParts,
-    out: &mut Sequence<LexFact>,
-) -> Result<(), AllocError>
-    ensures { OnOk result (out.new ≡ out.old ++ set_facts p.now names.now parts.now) }
-{
-    write_each(
-        alloc,
-        &WrittenModes { p, names },
-        parts.modes.as_slice(),
-        out,
-    )?;
-    write_each(
-        alloc,
-        &WrittenSizes { p, names },
-        parts.rows.as_slice(),
-        out,
-    )?;
-    write_each(alloc, &WrittenProofs {}, parts.row_proofs.as_slice(), out)?;
-    write_each(
-        alloc,
-        &WrittenGrounds { p, names },
-        parts.grounds.as_slice(),
-        out,
-    )
-}
 
 /// Puts the facts of lists, their drops and preconditions, and stuck sets after others.
 fn write_lists(
@@ -72,7 +38,11 @@ fn write_lists(
     )?;
     write_each(
         alloc,
-        &WrittenSets { p, names },
+        &WrittenRefutations {
+            p,
+            names,
+            points: Points {},
+        },
         parts.stuck.as_slice(),
         out,
     )
@@ -91,7 +61,13 @@ pub fn facts_of(
 {
     let mut facts = Sequence::new(alloc);
     facts.push(LexFact::Ctilex { version: 1 })?;
-    write_sets(alloc, p, names, parts, &mut facts)?;
+    let model = WrittenModel {
+        modes: parts.modes.as_slice(),
+        rows: parts.rows.as_slice(),
+        row_proofs: parts.row_proofs.as_slice(),
+        grounds: parts.grounds.as_slice(),
+    };
+    model.write(alloc, p, names, &mut facts)?;
     write_lists(alloc, p, names, parts, &mut facts)?;
     append(notes, &mut facts)?;
     Ok(LexCertificate { facts })

@@ -4,7 +4,7 @@ ghost use Rattle.std.specs.Prelude.{◌∷◌, [], suc};
 ghost use Rattle.cert_structure.specs.Order.{pred_text};
 ghost use Rattle.cert_structure.specs.Walk.{named};
 ghost use Rattle.fact_reading.specs.Numbered.{facts_from, lines_from};
-ghost use Rattle.lex_certificate.specs.Order.{level_line, drops_line, point_line, stuck_lines};
+ghost use Rattle.lex_certificate.specs.Order.{level_line, drops_line, point_line};
 ghost use Rattle.lex_certificate.specs.declared.fact.LexFact.TheVariants as lex;
 
 use crate::fact::LexFact;
@@ -233,36 +233,5 @@ impl Writer<LexFact> for Points {
             w: numbers(alloc, item.point.w.as_slice())?,
         };
         out.push(fact)
-    }
-}
-
-/// The stuck sets of components, by their first predicates.
-#[derive(Drop)]
-pub(crate) struct WrittenSets<'a> {
-    pub(crate) p: &'a Program,
-    pub(crate) names: &'a Names,
-}
-
-impl Writer<LexFact> for WrittenSets<'_> {
-    type Item = Option<Refutation>;
-
-    ghost facts = { λ w a r. stuck_lines (pred_text w.p.now w.names.now a) r };
-
-    fn write(
-        &self,
-        alloc: Global,
-        number: u64,
-        item: &Option<Refutation>,
-        out: &mut Sequence<LexFact>,
-    ) -> Result<(), AllocError> {
-        let Some(set) = item else {
-            return Ok(());
-        };
-        let fact = LexFact::Refuted {
-            pred: Named::new(self.p, self.names, number).text(alloc)?,
-            points: set.points.len() as u64,
-        };
-        out.push(fact)?;
-        write_each(alloc, &Points {}, set.points.as_slice(), out)
     }
 }

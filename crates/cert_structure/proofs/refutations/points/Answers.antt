@@ -4,15 +4,15 @@ use Rattle.fact_reading.proofs.LoopLemmas.{part_err}
 use Rattle.cert_structure.proofs.refutations.points.Goals as goal
 
 pub returns-in_err-point : goal.returns-in_err-point
-returns-in_err-point c =
+returns-in_err-point g c =
     part_err c.from_residual.result _ _ _ c.from_residual.ensures c.in_err-point.ensures λ w bad.
-    sym c.loop.invariant ∙ points_err _ _ _ c.loop.points _ _ _ (c.args.count - (c.loop.counter + 1)) w (omega arith) bad
+    sym c.loop.invariant ∙ points_err _ c.loop.points _ _ _ (c.args.count - (c.loop.counter + 1)) w (omega arith) bad
 
 pub loop-preserved : goal.loop-preserved
-loop-preserved c =
+loop-preserved g c =
     rw c.in_ok-push.ensures.ok
-    (points_more _ _ _ c.loop.points (c.loop.last.clause, c.loop.last.call) (c.args.count - c.loop.counter) _ (c.args.count - (c.loop.counter + 1)) _ _ (omega arith) c.in_ok-point.ensures
+    (points_more _ c.loop.points (c.loop.last.clause, c.loop.last.call) (c.args.count - c.loop.counter) _ (c.args.count - (c.loop.counter + 1)) _ _ (omega arith) c.in_ok-point.ensures
     ∙ c.loop.invariant)
 
 pub returns : goal.returns
-returns c = sym c.loop.invariant ∙ points_end _ _ _ c.loop.points _ _ _ (omega arith)
+returns g c = sym c.loop.invariant ∙ points_end _ c.loop.points _ _ _ (omega arith)
