@@ -175,6 +175,7 @@ module _ (p new : Listing) (comps new_comps : Partition) (b c : ℕ) (rows new_r
         | inl given_up ↦ inl given_up
         | inr out ↦ inr (excluded_there (without_number k t) out)
       ];
+      left_out = λ t i. s.left_out t (back_support t i);
       decided = elim s.decided [
         | inl some ↦ inl (subst (λ (n : ℕ). 1 ≤ n) (sym (length_mapped (moved_mapping g members) x.mappings)) some)
         | inr (inl refuted) ↦ inr (inl ((some_mapped (moved_refutation g) x.refutation).1 refuted))

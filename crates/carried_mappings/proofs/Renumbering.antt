@@ -359,6 +359,13 @@ module _ (f : ℕ → ℕ) (m : ℕ → Bool) (apart : KeepsApart (λ q. m q ≡
       let a = of_renumbered 1 olds s x b.0 in
       in_renumbered 1 olds (without_number n s) x a.0 a.1 (in_without n a.0 s a.2 (λ e. b.1 (one_new x k n (subst (IsOld 1 olds x) e a.1) o))))
 
+  -- a number that is left out here has one there
+  pub left_there : (s : List ℕ) → IsSet 1 (suc (length ps)) s → (n : ℕ) → In n s → (k : ℕ) × In k (renumbered olds s) × (renumbered olds (without_number n s) ≡ without_number k (renumbered olds s))
+  left_there s set n i =
+      let b = within 1 (suc (length ps)) s set n i in
+      let k = new_at n b.0 b.1 in
+      (k.0, in_renumbered 1 olds s k.0 n k.1 i, renumbered_without s k.0 n k.1)
+
   -- ---- supports
   support_each : (i : ℕ) (xs : List Position) (ns : List ℕ) → HaveOlds f ps xs ns → (l : Mapping) → support_from i xs l ≡ renumbered_from i ns (support_from 1 ps (pulled f m l))
   support_each i [] [] h l = refl

@@ -46,7 +46,7 @@ use Rattle.carried_mappings.proofs.MembersAlike.{AreMembersAlike}
 use Rattle.carried_mappings.proofs.Numbers.{AreMoved, numbers_of}
 use Rattle.carried_mappings.proofs.Parts.{at_there, blown_at, falling_there, falls_there, map_at, none_here, none_there, of_view, pairs_there, part_there, pulled_there, some_mapped}
 use Rattle.carried_mappings.proofs.Renamed.{length_mapped, level_from, level_renamed, mapping_pulled, preds_of, renamed_measure}
-use Rattle.carried_mappings.proofs.Renumbering.{HaveOlds, as_many, from_old, of_renumbered, olds_long, one_renumbered, part_back, picked_same, renumbered_full, renumbered_set, renumbered_without, support_is_set, support_renumbered}
+use Rattle.carried_mappings.proofs.Renumbering.{HaveOlds, as_many, from_old, left_there, of_renumbered, olds_long, one_renumbered, part_back, picked_same, renumbered_full, renumbered_set, renumbered_without, support_is_set, support_renumbered}
 
 -- ---- parts by predicate
 level_some : (ys : List Measure) (r : ℕ) (part : LevelPart) → level_in ys r ≡ Some part → In (record { pred = record { 0 = r }; part = part }) ys
@@ -408,6 +408,18 @@ module _ (p new : Listing) (comps new_comps : Partition) (b c : ℕ) (rows new_r
           | inr out ↦ inr (subst (IsExcluded there_had) same (excluded_there (without_number n.0 s) out))
         ]
 
+    -- a set that was given up leaves out the position there that it left out here, under its new number
+    left_out_there : ((s : List ℕ) → In s found_supports → (u : List ℕ) → In u x.blown → (n : ℕ) × In n s × (u ≡ without_number n s))
+        → (t : List ℕ) → In t new_supports → (u : List ℕ) → In u (map (renumbered olds) x.blown) → (k : ℕ) × In k t × (u ≡ without_number k t)
+    left_out_there left t i u j =
+        let z = of_support t i in
+        let s = support_of us z.mapping in
+        let v = of-map (renumbered olds) x.blown u j in
+        let n = left s (in-map (support_of us) x.mappings z.mapping z.own) v.0 v.1 in
+        let k = left_there f am h.all.apart us vs h.all.positions h.all.distinct h.all.new_distinct olds olds_are s
+        (support_is_set f am h.all.apart us vs h.all.positions h.all.distinct h.all.new_distinct olds olds_are (mapping_with z.mapping.measures)) n.0 n.1 in
+        (k.0, subst (In k.0) z.from k.1, sym v.2 ∙ ap (renumbered olds) n.2 ∙ k.2 ∙ ap (without_number k.0) z.from)
+
     large_there : IsLarge expression p comps rows b x → IsLarge expression new new_comps new_rows c new_x
     large_there s =
         let same : chosen_mappings ≡ x.mappings = by_sets_few (length olds) set_of x.mappings s.few in
@@ -416,6 +428,7 @@ module _ (p new : Listing) (comps new_comps : Partition) (b c : ℕ) (rows new_r
           few = subst (λ (n : ℕ). n ≤ 1) (sym long) s.few;
           decreases = had_there;
           needed = needed_there s.needed;
+          left_out = left_out_there s.left_out;
           decided = elim s.decided [
             | inl some ↦ inl (subst (λ (n : ℕ). 1 ≤ n) (sym long) some)
             | inr (inl refuted) ↦ inr (inl ((some_mapped (moved_refutation g) x.refutation).1 refuted))

@@ -108,7 +108,7 @@ module _ (expression : ℕ → Tree → List ℤ) (p : Listing) (comps : Partiti
     at = tt;
     falling = tt;
     small = λ _. record { minimal = λ s i. absurd i; within = λ s h. inr ([], none_undecided all, refl); order = tt };
-    more = λ _. record { few = omega arith; decreases = λ s i. absurd i; needed = λ s i. absurd i; decided = inr (inr (full_undecided all)) };
+    more = λ _. record { few = omega arith; decreases = λ s i. absurd i; needed = λ s i. absurd i; left_out = λ s i. absurd i; decided = inr (inr (full_undecided all)) };
     refuted = ((λ h. absurd (h refl)), λ k. absurd (k.1 (full_undecided all)));
     shown = λ r e. cc;
     sets = sets_undecided all (full_is_set many);
@@ -125,7 +125,7 @@ module _ (expression : ℕ → Tree → List ℤ) (p : Listing) (comps : Partiti
     at = tt;
     falling = tt;
     small = λ _. record { minimal = λ s i. absurd i; within = λ s h. absurd (none s h); order = tt };
-    more = λ _. record { few = omega arith; decreases = λ s i. absurd i; needed = λ s i. absurd i; decided = inr (inr (inl refl)) };
+    more = λ _. record { few = omega arith; decreases = λ s i. absurd i; needed = λ s i. absurd i; left_out = λ s i. absurd i; decided = inr (inr (inl refl)) };
     refuted = ((λ h. absurd (h refl)), λ k. absurd (k.1 (inl refl)));
     shown = λ r e. cc;
     sets = full_sets;
@@ -142,7 +142,7 @@ module _ (expression : ℕ → Tree → List ℤ) (p : Listing) (comps : Partiti
     at = tt;
     falling = tt;
     small = λ _. record { minimal = λ s i. absurd i; within = λ s h. absurd (none s h); order = tt };
-    more = λ _. record { few = omega arith; decreases = λ s i. absurd i; needed = λ s i. absurd i; decided = inr (inl (λ e. cc)) };
+    more = λ _. record { few = omega arith; decreases = λ s i. absurd i; needed = λ s i. absurd i; left_out = λ s i. absurd i; decided = inr (inl (λ e. cc)) };
     refuted = ((λ h. (none, λ i. i)), λ k e. cc);
     shown = λ q e. let same : r ≡ q = cc in subst (IsRefutationOf expression p comps rows c) same is;
     sets = λ s i. absurd i;
@@ -159,7 +159,7 @@ module _ (expression : ℕ → Tree → List ℤ) (p : Listing) (comps : Partiti
     at = tt;
     falling = tt;
     small = λ e. cc;
-    more = λ _. record { few = omega arith; decreases = λ s i. absurd i; needed = λ s i. absurd i; decided = inr (inr (inl refl)) };
+    more = λ _. record { few = omega arith; decreases = λ s i. absurd i; needed = λ s i. absurd i; left_out = λ s i. absurd i; decided = inr (inr (inl refl)) };
     refuted = ((λ h. absurd (h refl)), λ k. absurd (k.1 (inl refl)));
     shown = λ r e. cc;
     sets = full_sets;

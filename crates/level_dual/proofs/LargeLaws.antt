@@ -195,6 +195,10 @@ module _ (expression : ℕ → Tree → List ℤ) (p : Listing) (comps : Partiti
         | inl e ↦ subst (λ t. In (without_number j t) blown ⊎ IsExcluded has (without_number j t)) e (left.0 j (subst (In j) (sym e) k))
         | inr none ↦ absurd none
       ];
+      left_out = λ s i t j. elim i [
+        | inl e ↦ subst (λ (u : List ℕ). (k : ℕ) × In k u × (t ≡ without_number k u)) e (let w = left.3 t j in (w.0, w.2, w.1))
+        | inr none ↦ absurd none
+      ];
       decided = inl (omega arith);
     };
     refuted = ((λ k. absurd (k refl)), λ k. absurd (k.0 (support_of (positions_in p comps c) m) had.1));

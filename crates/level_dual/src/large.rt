@@ -1,6 +1,6 @@
 //! Components of many positions: one mapping, none of whose positions can be left out.
 
-ghost use Rattle.std.specs.Prelude.{◌≡◌, ◌↔◌, ◌<◌, ◌^◌, IfOk, IsTrue, length, map, true};
+ghost use Rattle.std.specs.Prelude.{◌≡◌, ◌↔◌, ◌<◌, ◌≤◌, ◌^◌, IfOk, IsTrue, length, map, true};
 ghost use Rattle.level_systems.specs.Found.{IsFound, count, without_number};
 ghost use Rattle.level_systems.specs.Held.{spelled};
 ghost use Rattle.level_dual.specs.Components.{ForComponent};
@@ -148,10 +148,11 @@ pub fn find_large(
 ) -> Result<Found, AllocError>
     requires sound { IsSound p.now component.now }
     requires small { length component.now.positions.items < 2 ^ 32 }
-    ensures { IfOk result (λ f. ForComponent p.now component.now (λ expression comps rows c.
+    ensures found { IfOk result (λ f. ForComponent p.now component.now (λ expression comps rows c.
         IsTrue true ↔ (12 < count expression p.now comps rows c)
         → IsHadMapping expression p.now comps rows c mapping
         → IsFound expression p.now comps rows c f)) }
+    ensures some { IfOk result (λ f. 1 ≤ length f.mappings) }
 {
     let mut mapping = mapping;
     loop {

@@ -83,6 +83,8 @@ module _ (expression : ℕ → Tree → List ℤ) (p : Listing) (comps : Partiti
     pub few : length f.mappings ≤ 1
     pub decreases : (s : List ℕ) → In s (supports f) → HasSupportIn expression p comps rows c s
     pub needed : (s : List ℕ) → In s (supports f) → (i : ℕ) → In i s → In (without_number i s) f.blown ⊎ IsExcluded (HasSupportIn expression p comps rows c) (without_number i s)
+    -- where there is a mapping, each set that was given up is its support without one of its positions
+    pub left_out : (s : List ℕ) → In s (supports f) → (t : List ℕ) → In t f.blown → (i : ℕ) × In i s × (t ≡ without_number i s)
     pub decided : (1 ≤ length f.mappings) ⊎ (f.refutation ≢ None) ⊎ In full f.blown
 
   pub record IsFound (f : Found) : Type 0 where

@@ -1,5 +1,5 @@
 -- What is found of mappings in a large component, as lists of one.
-use Rattle.std.proofs.Common.{◌≡◌, ◌↔◌, ◌⊎◌, inl, inr, ℕ, ◌<◌, ℤ, Bool, true, false, IsTrue, List, [], ◌∷◌, map, None, refl, sym, subst, arith}
+use Rattle.std.proofs.Common.{◌≡◌, ◌↔◌, ◌⊎◌, inl, inr, ℕ, ◌<◌, ◌≤◌, ℤ, Bool, true, false, IsTrue, List, [], ◌∷◌, map, length, None, refl, sym, subst, arith}
 use Rattle.std.specs.List.{AllByRecursion}
 use Rattle.std.proofs.lemmas.List.{length-map}
 use Rattle.cti_terms.specs.Listing.{Listing}
@@ -14,7 +14,7 @@ use Rattle.level_systems.specs.Found.{IsFound, count, without_number}
 use Rattle.level_systems.specs.Mappings.{IsMappingOf, mapping_with, support_of}
 use Rattle.level_systems.specs.declared.found.Found.{Found}
 use Rattle.level_systems.specs.declared.mapping.Mapping.{Mapping}
-use Rattle.lex_turns.specs.FoundLists.{AreFoundLists, IsDescendingList, IsLong, IsWithoutSpare, support_of_list}
+use Rattle.lex_turns.specs.FoundLists.{AreFoundLists, IsDescendingList, IsLong, IsOneMapping, IsWithoutSpare, support_of_list}
 use Rattle.lex_turns.specs.Single.{one_list}
 use Rattle.lex_turns.specs.declared.measure_list.MeasureList.{MeasureList}
 use Rattle.lex_turns.proofs.ListSupports.{list_had}
@@ -62,10 +62,15 @@ module _ (expression : ℕ → Tree → List ℤ) (p : Listing) (comps : Partiti
             | inr e ↦ inr (e, λ long. absurd (one_short m long))
           ]
 
-  -- what is found of mappings is what is found of lists, where some mapping decreases
-  pub mapped_found : 12 < count expression p comps rows c → (s : List ℕ) → has s → (f : Found) → IsFound expression p comps rows c f
+  one_mapping : (ms : List Mapping) → length ms ≤ 1 → 1 ≤ length ms → IsOneMapping (map one_list ms)
+  one_mapping [] few some = absurd (omega (arith, some))
+  one_mapping (m ∷ []) few some = refl
+  one_mapping (m ∷ (n ∷ ms)) few some = absurd (omega (arith, few))
+
+  -- what is found of mappings is what is found of lists, where a mapping is found
+  pub mapped_found : 12 < count expression p comps rows c → (s : List ℕ) → has s → (f : Found) → 1 ≤ length f.mappings → IsFound expression p comps rows c f
       → AreFoundLists expression p comps rows c (record { lists = map one_list f.mappings; refutation = None; blown = f.blown; large = f.large })
-  mapped_found many s had_one f is =
+  mapped_found many s had_one f some is =
       let large = is.large in
       let yes : f.large ≡ true = true_of f.large (large.1 many) in
       let more = is.more yes in
@@ -77,12 +82,9 @@ module _ (expression : ℕ → Tree → List ℤ) (p : Listing) (comps : Partiti
           few = let n = length-map f.mappings one_list in let l = more.few in omega (arith, n, l);
           single = all_short _ f.mappings;
           spare = all_spare f.blown f.mappings more.needed;
-          decided = elim more.decided [
-            | inl l ↦ let n = length-map f.mappings one_list in inl (omega (arith, n, l))
-            | inr (inl r) ↦ absurd ((is.refuted.0 r).0 s had_one)
-            | inr (inr b) ↦ inr (inr (b, inr (is.given_up _ b, (s, had_one))))
-          ];
-          given_up = λ t i. inr (is.given_up t i);
+          decided = let n = length-map f.mappings one_list in inl (omega (arith, n, some));
+          given_up = λ t i. inr (is.given_up t i, one_mapping f.mappings more.few some);
+          left_out = λ u m. more.left_out u (subst (λ (ss : List (List ℕ)). In u ss) (supports_same f.mappings) m);
         };
         stuck = ((λ k. absurd (k refl)), λ k. absurd (k.0 s (list_had expression p comps rows c s had_one)));
         shown = λ r e. cc;

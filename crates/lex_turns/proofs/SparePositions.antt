@@ -113,6 +113,10 @@ module _ (expression : ℕ → Tree → List ℤ) (p : Listing) (comps : Partiti
           spare = ((λ i m. elim (left.0 i m) [ inl b ↦ inl b | inr v ↦ inr (void_had expression p comps rows c (without_number i s) v, λ long. v) ]), tt);
           decided = inl (omega arith);
           given_up = λ t i. inl (left.1 t i);
+          left_out = λ u m t i. elim m [
+            | inl e ↦ subst (λ (z : List ℕ). (k : ℕ) × In k z × (t ≡ without_number k z)) e (let w = left.3 t i in (w.0, w.2, w.1))
+            | inr none ↦ absurd none
+          ];
         };
         stuck = ((λ k. absurd (k refl)), λ k. absurd (k.0 s had_list.1));
         shown = λ r e. cc;

@@ -55,6 +55,10 @@ support_of_list positions l = list_support_from 1 positions (mappings_of l)
 abbrev pub IsLong : MeasureList → Type 0
 IsLong l = 2 ≤ length l.measures
 
+-- one list, of a single mapping
+abbrev pub IsOneMapping : List MeasureList → Type 0
+IsOneMapping ls = map (λ (l : MeasureList). length l.measures) ls ≡ 1 ∷ []
+
 module _ (expression : ℕ → Tree → List ℤ) (p : Listing) (comps : Partition) (rows : ℕ → List (List ℤ)) (c : ℕ) where
   -- a list of mappings of the component that descends has exactly this support
   pub record HasList (s : List ℕ) : Type 0 where
@@ -121,20 +125,22 @@ module _ (expression : ℕ → Tree → List ℤ) (p : Listing) (comps : Partiti
       ⊎ (IsExcluded (HasSupportIn expression p comps rows c) (without_number i (support_of_list (positions_in p comps c) l))
       × (IsLong l → IsExcluded HasList (without_number i (support_of_list (positions_in p comps c) l))))
 
-  -- nothing is known of the set of all positions: a list may be missing, or a mapping whose set is blown
+  -- nothing is known of the set of all positions: a list may be missing
   abbrev pub IsUndecided : Type 0
-  IsUndecided = MayBeMissing (full expression p comps rows c) ⊎ (IsBlownSet expression p comps rows c (full expression p comps rows c)
-      × ((s : List ℕ) × HasSupportIn expression p comps rows c s))
+  IsUndecided = MayBeMissing (full expression p comps rows c)
 
   -- more: one list at most, of one mapping where some mapping decreases; or a stuck set; or nothing is known of all
-  -- positions, and these were given up
+  -- positions, and these were given up. A set is given up where its search by turns was; or where its system is blown,
+  -- beside a list of one mapping
   pub record AreLargeLists (f : FoundLists) : Type 0 where
     pub few : length f.lists ≤ 1
     pub single : AllByRecursion (λ (l : MeasureList). IsLong l
         → IsBlownSet expression p comps rows c (full expression p comps rows c) ⊎ ((s : List ℕ) → HasSupportIn expression p comps rows c s → ⊥)) f.lists
     pub spare : AllByRecursion (IsWithoutSpare f.blown) f.lists
     pub decided : (1 ≤ length f.lists) ⊎ (f.refutation ≢ None) ⊎ (In (full expression p comps rows c) f.blown × IsUndecided)
-    pub given_up : (s : List ℕ) → In s f.blown → IsGivenUpAt s ⊎ IsBlownSet expression p comps rows c s
+    pub given_up : (s : List ℕ) → In s f.blown → IsGivenUpAt s ⊎ (IsBlownSet expression p comps rows c s × IsOneMapping f.lists)
+    -- where there is a list, each set that was given up is its support without one of its positions
+    pub left_out : (s : List ℕ) → In s (supports f) → (t : List ℕ) → In t f.blown → (i : ℕ) × In i s × (t ≡ without_number i s)
 
   pub record AreFoundLists (f : FoundLists) : Type 0 where
     pub large : IsTrue f.large ↔ (12 < count expression p comps rows c)

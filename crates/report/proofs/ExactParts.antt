@@ -264,6 +264,7 @@ module _ (expression : ℕ → Tree → List ℤ) (p : Listing) (comps : Partiti
           | inr (inr i) ↦ inr (inr i)
         ];
         needed = λ m i less h. large.needed (printed_support expression p comps parts c m) (support_in m less) i h;
+        left_out = λ m less. large.left_out (printed_support expression p comps parts c m) (support_in m less);
       }
 
   component_is : ComponentIsExact expression p comps parts c q f.blown

@@ -55,6 +55,9 @@ module _ (expression : ℕ → Tree → List ℤ) (p : Listing) (comps : Partiti
     pub needed : (m i : ℕ) → m < length (items_of parts.levels q) → In i (printed_support expression p comps parts c m)
         → In (without_number i (printed_support expression p comps parts c m)) blown
         ⊎ IsExcluded (HasMapping expression p comps parts c) (without_number i (printed_support expression p comps parts c m))
+    -- where a mapping is printed, each set that was given up is its support without one of its positions
+    pub left_out : (m : ℕ) → m < length (items_of parts.levels q) → (s : List ℕ) → In s blown
+        → (i : ℕ) × In i (printed_support expression p comps parts c m) × (s ≡ without_number i (printed_support expression p comps parts c m))
 
   -- a recursive component whose first member is q
   pub record ComponentIsExact (c q : ℕ) (blown : List (List ℕ)) : Type 0 where

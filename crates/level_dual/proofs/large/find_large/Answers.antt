@@ -12,8 +12,8 @@ use Rattle.level_dual.proofs.LargeLaws.{large_found, set_once}
 use Rattle.level_dual.proofs.WalkLaws.{sets_in}
 use Rattle.level_dual.proofs.large.find_large.Goals as goal
 
-pub returns-in-None : goal.returns-in-None
-returns-in-None c = λ size truth expression comps rows r h large before.
+pub returns-in-None-clause-found : goal.returns-in-None-clause-found
+returns-in-None-clause-found c = λ size truth expression comps rows r h large before.
     let p = c.args.p.now in
     let x = c.args.component.now in
     let m : Mapping = c.loop-mapping.mapping in
