@@ -30,7 +30,7 @@ pub use bounding::valid_certificates_bound_their_modes;
 pub use checking::check;
 pub use fall_faults::fall_fault;
 pub use fault::Fault;
-pub use measure_faults::measure_fault;
+pub use measure_faults::{is_zero, measure_fault};
 pub use norms::norm_of;
 pub use number_tests::{check_fall, check_size};
 pub use reason::Reason;

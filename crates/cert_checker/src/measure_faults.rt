@@ -29,8 +29,8 @@ fn are_zero(numbers: &[i128]) -> bool
     true
 }
 
-/// Whether a predicate's part of a mapping is 0.
-fn is_zero(part: &LevelPart) -> bool
+/// Whether a predicate's part of a mapping is 0. It takes no memory.
+pub fn is_zero(part: &LevelPart) -> bool
     ensures { IsTrue result ↔ IsZero part.now }
 {
     part.offset == 0 && are_zero(part.coeffs.as_slice())

@@ -30,7 +30,7 @@ use Rattle.cti_top.specs.declared.status.Status.TheVariants.{Done, No, Usage, Re
 
 -- a verdict is written with its status
 done_or_no : {p : Listing} {names : List (List ℕ)} {facts : List Fact} {status : Status} {text : List ℕ} → IsVerdictOn p names facts status text → (status ≡ Done) ⊎ (status ≡ No)
-done_or_no (checks.valid v bounded s e) = inl s
+done_or_no (checks.valid v bounded excluded s e) = inl s
 done_or_no (checks.not_valid line reason v fault s e) = inr s
 
 file_unlike : (FileFault ≡ Done) ⊎ (FileFault ≡ No) → ⊥

@@ -14,6 +14,7 @@ use Rattle.certificate.specs.Lines.{IsFirstWrong}
 use Rattle.certificate.specs.Reading.{IsTextOf, most_bytes}
 use Rattle.cert_checker.specs.Bounding.{ModesAreBounded}
 use Rattle.cert_checker.specs.Fault.{IsFault}
+use Rattle.cert_checker.specs.Refutes.{RefutedHaveNoMapping}
 use Rattle.cert_checker.specs.Valid.{IsValid}
 use Rattle.cert_checker.specs.declared.reason.Reason.{Reason}
 use Rattle.cert_checker.specs.declared.verdict.Verdict.TheVariants as verdict
@@ -25,7 +26,7 @@ use Rattle.cti_top.specs.declared.status.Status.TheVariants.{Done, No}
 
 -- the facts are valid for the program and its names, or this is their first fault
 pub data IsVerdictOn (p : Listing) (names : List (List ℕ)) (facts : List Fact) (status : Status) (text : List ℕ) : Type 0 where
-  valid : IsValid p names facts → ModesAreBounded p names facts → status ≡ Done → text ≡ verdict_line verdict.Yes → IsVerdictOn p names facts status text
+  valid : IsValid p names facts → ModesAreBounded p names facts → RefutedHaveNoMapping p names facts → status ≡ Done → text ≡ verdict_line verdict.Yes → IsVerdictOn p names facts status text
   not_valid : (line : ℕ) (reason : Reason) → (IsValid p names facts → ⊥) → IsFault p names facts line reason → status ≡ No → text ≡ verdict_line (verdict.No line reason) → IsVerdictOn p names facts status text
 
 -- the text is what is answered to the certificate of this text, for this program

@@ -1,14 +1,14 @@
 //! The answer to a generated program: how many predicates, clauses and modes it has.
 
-ghost use Rattle.std.specs.Prelude.{◌≡◌, ◌<◌, ◌≤◌, ◌++◌, ℕ, List, length, IfOk, OnOk};
+ghost use Rattle.std.specs.Prelude.{◌≡◌, ◌<◌, ◌≤◌, ℕ, List, length, IfOk};
 ghost use Rattle.std.specs.List.{AllByRecursion};
 ghost use Rattle.cti_terms.specs.declared.predicates.Pred.{Pred as ThePred};
 ghost use Rattle.prolog_reader.specs.Meanings.{table_of};
 ghost use Rattle.cti_top.specs.Programs.{IsProgramOf};
-ghost use Rattle.cti_top.specs.Refusal.{field};
 ghost use Rattle.cti_top.specs.Summary.{modes_in, mode_count, summary_line, IsSummary};
 
 use crate::answer::Answer;
+use crate::refusal::push_field;
 use crate::source::Source;
 use crate::status::Status;
 use certificate::Fact;
@@ -38,14 +38,6 @@ fn mode_count(facts: &[Fact]) -> u128
     count
 }
 
-/// Appends a comma and a number.
-fn push_count(text: &mut Vec<u8>, count: u128) -> Result<(), AllocError>
-    ensures { OnOk result (text.new.items ≡ text.old.items ++ field count) }
-{
-    text.extend_from_slice(b",")?;
-    text.extend_from_slice(Buffer::new().format(count).as_bytes())
-}
-
 /// The line `generated(N,Clauses,Modes).` with its newline.
 fn summary_text(
     alloc: Global,
@@ -57,8 +49,8 @@ fn summary_text(
 {
     let mut text = Vec::from_slice(alloc, b"generated(")?;
     text.extend_from_slice(Buffer::new().format(predicates).as_bytes())?;
-    push_count(&mut text, u128::from(clauses))?;
-    push_count(&mut text, modes)?;
+    push_field(&mut text, u128::from(clauses))?;
+    push_field(&mut text, modes)?;
     text.extend_from_slice(b").\n")?;
     Ok(text)
 }

@@ -28,7 +28,7 @@ impl Subject {
 }
 
 /// Appends a comma and a number.
-pub fn push_field(text: &mut Vec<u8>, number: u32) -> Result<(), AllocError>
+pub fn push_field(text: &mut Vec<u8>, number: u128) -> Result<(), AllocError>
     ensures { OnOk result (text.new.items ≡ text.old.items ++ field number) }
 {
     text.extend_from_slice(b",")?;
@@ -48,9 +48,9 @@ pub fn refusal_text(
 {
     let mut text = Vec::from_slice(alloc, b"refused(")?;
     text.extend_from_slice(subject.name())?;
-    push_field(&mut text, line)?;
-    push_field(&mut text, column)?;
-    push_field(&mut text, kind)?;
+    push_field(&mut text, u128::from(line))?;
+    push_field(&mut text, u128::from(column))?;
+    push_field(&mut text, u128::from(kind))?;
     text.extend_from_slice(b").\n")?;
     Ok(text)
 }

@@ -34,7 +34,7 @@ fn no_text(alloc: Global, line: u64, reason: Reason) -> Result<Vec<u8>, AllocErr
 {
     let mut text = Vec::from_slice(alloc, b"no(")?;
     text.extend_from_slice(Buffer::new().format(line).as_bytes())?;
-    push_field(&mut text, reason_number(reason))?;
+    push_field(&mut text, u128::from(reason_number(reason)))?;
     text.extend_from_slice(b").\n")?;
     Ok(text)
 }

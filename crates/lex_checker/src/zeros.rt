@@ -1,6 +1,6 @@
 //! The lists of components that are not recursive.
 
-ghost use Rattle.std.specs.Prelude.{◌≡◌, ◌↔◌, IsTrue, length, pos};
+ghost use Rattle.std.specs.Prelude.{◌↔◌, IsTrue};
 ghost use Rattle.std.specs.List.{AllByRecursion};
 ghost use Rattle.call_components.specs.Partition.{AreComponents};
 ghost use Rattle.cert_checker.specs.Proved.{IsZero};
@@ -13,24 +13,12 @@ use lex_certificate::LexParts;
 use number_tests::LevelPart;
 use sequences::Sequence;
 
-/// Whether all numbers are 0.
-fn are_zero(numbers: &[i128]) -> bool
-    ensures { IsTrue result ↔ AllByRecursion (λ a. a ≡ pos 0) numbers.now }
-{
-    for number in numbers {
-        if *number != 0 {
-            return false;
-        }
-    }
-    true
-}
-
 /// Whether each measure of a list is 0.
 fn is_zero(measures: &[LevelPart]) -> bool
     ensures { IsTrue result ↔ AllByRecursion IsZero measures.now }
 {
     for part in measures {
-        if part.offset != 0 || !are_zero(part.coeffs.as_slice()) {
+        if !cert_checker::is_zero(part) {
             return false;
         }
     }

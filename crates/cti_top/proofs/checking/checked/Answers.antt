@@ -5,5 +5,5 @@ pub returns : goal.returns
 returns c =
     let s = c.args.source.now in
     let h = c.in_ok-verdict.ensures in
-    verdict_on s.program s.names c.args.certificate.now.facts c.in_ok-verdict.verdict c.status_of.result c.in_ok-verdict_text.field-0.items h.yes h.bounded h.fault
+    verdict_on s.program s.names c.args.certificate.now.facts c.in_ok-verdict.verdict c.status_of.result c.in_ok-verdict_text.field-0.items h.yes h.bounded h.excluded h.fault
     c.status_of.ensures c.in_ok-verdict_text.ensures
