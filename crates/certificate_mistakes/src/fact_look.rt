@@ -112,7 +112,7 @@ impl<'a> FactLook<'a> {
 
     /// Whether the part under way is a list of modes.
     fn is_modes(&self) -> bool {
-        self.part == 1 && (self.is_of("terminates") || self.is_of("blown"))
+        self.part == 1 && self.is_of("terminates")
     }
 
     /// Whether an argument of a row of truth values is under way.

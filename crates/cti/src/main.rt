@@ -14,18 +14,18 @@ use std::process::ExitCode;
 use std::{env, io};
 use warnings::warn;
 
-/// The words after the program's name. Where the system does not give them as text, there are none.
-fn words(rt: &HostRuntime, alloc: Global) -> Result<Vec<String>, AllocError> {
+/// The words after the program's name, and whether the system gives all of them as text. If it does not, there are none.
+fn words(rt: &HostRuntime, alloc: Global) -> Result<(Vec<String>, bool), AllocError> {
     let mut words = Vec::new(alloc);
     match env::args(rt) {
         Ok(args) => {
             for word in args.skip(1) {
                 words.push(word)?;
             }
-            Ok(words)
+            Ok((words, true))
         }
         Err(error) if error.kind() == io::ErrorKind::OutOfMemory => Err(AllocError),
-        Err(_) => Ok(words),
+        Err(_) => Ok((words, false)),
     }
 }
 
@@ -35,12 +35,13 @@ fn tell<'a, F: Files + Drop, W: Write + Drop>(
     rt: &HostRuntime,
     status: Status,
     words: &'a [&'a str],
+    are_text: bool,
     files: &'a KeptFiles<F>,
     out: &'a RealSink<Keeping<W>>,
 ) -> Result<(), AllocError> {
     let ending = Ending {
         status: status.number(),
-        words,
+        words: are_text.then_some(words),
         output: out.head(),
         written: out.taken(),
         program: files.text(0),
@@ -57,7 +58,7 @@ fn tell<'a, F: Files + Drop, W: Write + Drop>(
 
 /// Runs the command that the words ask for, and says what went wrong.
 fn run(rt: &HostRuntime, alloc: Global) -> Result<Status, AllocError> {
-    let words = words(rt, alloc)?;
+    let (words, are_text) = words(rt, alloc)?;
     let mut texts = Vec::new(alloc);
     for word in &words {
         texts.push(word.as_str())?;
@@ -71,7 +72,7 @@ fn run(rt: &HostRuntime, alloc: Global) -> Result<Status, AllocError> {
     let mut out = RealSink::new(Keeping::new(alloc, rt.stdout(), keeps));
     let status = command(alloc, &texts, &mut files, &mut out);
     // The answer is written, and stands, if there is no memory for the message.
-    let _ = tell(rt, status, &texts, &files, &out);
+    let _ = tell(rt, status, &texts, are_text, &files, &out);
     Ok(status)
 }
 

@@ -13,4 +13,4 @@ mod table;
 pub use fact_runs::{FactRuns, Run};
 pub use listed::{IntegerGoal, Listed};
 pub use places::Places;
-pub use table::{ClauseRow, ProgramTable};
+pub use table::{ClauseRow, ProgramTable, number_of};

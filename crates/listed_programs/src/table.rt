@@ -1,8 +1,13 @@
 //! A program as lists of numbers.
 
 use call_components::{Components, components};
-use cti_terms::{Pred, PredId, Program};
+use cti_terms::{Clause, Pred, PredId, Program};
 use std::alloc::{AllocError, Global};
+
+/// The number, from 1, of what stands at a place, from 0.
+pub fn number_of(place: usize) -> u32 {
+    u32::try_from(place).unwrap_or(u32::MAX).saturating_add(1)
+}
 
 /// A clause: its head's predicate, and which of the table's calls are its own.
 #[derive(Clone, Copy)]
@@ -59,17 +64,22 @@ impl ProgramTable {
     /// Adds the clauses of a program.
     fn add_clauses(&mut self, program: &Program) -> Result<(), AllocError> {
         for number in 0..program.clauses() {
-            let clause = program.clause(number + 1);
-            let start = self.calls.len();
-            for atom in clause.body.as_slice() {
-                self.calls.push(atom.pred.0)?;
-            }
-            self.clauses.push(ClauseRow {
-                head: clause.head.pred.0,
-                start,
-                count: self.calls.len().saturating_sub(start),
-            })?;
+            self.add_clause(program.clause(number + 1))?;
         }
+        Ok(())
+    }
+
+    /// Adds a clause.
+    fn add_clause(&mut self, clause: &Clause) -> Result<(), AllocError> {
+        let start = self.calls.len();
+        for atom in clause.body.as_slice() {
+            self.calls.push(atom.pred.0)?;
+        }
+        self.clauses.push(ClauseRow {
+            head: clause.head.pred.0,
+            start,
+            count: self.calls.len().saturating_sub(start),
+        })?;
         Ok(())
     }
 
@@ -77,13 +87,18 @@ impl ProgramTable {
     fn note_components(&mut self, components: &Components) -> Result<(), AllocError> {
         for number in 0..components.count() {
             self.recursive.push(components.recursive(number))?;
-            for member in components.members(number) {
-                if let Some(place) = self.component.get_mut(member.0 as usize) {
-                    *place = number;
-                }
-            }
+            self.note_members(number, components.members(number));
         }
         Ok(())
+    }
+
+    /// Notes the component of its members.
+    fn note_members(&mut self, component: u32, members: &[PredId]) {
+        for member in members {
+            if let Some(place) = self.component.get_mut(member.0 as usize) {
+                *place = component;
+            }
+        }
     }
 
     /// Whether a component is recursive.

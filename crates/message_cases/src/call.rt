@@ -92,7 +92,7 @@ impl Call {
         let told = Words::of(words);
         Ending {
             status: self.status,
-            words,
+            words: Some(words),
             output: &self.output,
             written: self.output.len() as u64,
             program: self.text(told.file()),

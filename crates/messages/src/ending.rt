@@ -3,7 +3,7 @@
 use crate::texts::Texts;
 use crate::told::Subject;
 use crate::trouble::Trouble;
-use word_faults::Words;
+use word_faults::{WordFault, Words};
 
 /// The exit statuses that a message goes with, but for that of a file.
 const NO: u8 = 1;
@@ -25,8 +25,8 @@ const OVERFLOW: u8 = 8;
 pub struct Ending<'a> {
     /// The exit status.
     pub status: u8,
-    /// The words after the program's name.
-    pub words: &'a [&'a str],
+    /// The words after the program's name, if all of them are UTF-8.
+    pub words: Option<&'a [&'a str]>,
     /// The beginning of what was written on standard output.
     pub output: &'a [u8],
     /// How many bytes were written there.
@@ -40,7 +40,7 @@ pub struct Ending<'a> {
 impl<'a> Ending<'a> {
     /// The words, sorted by what they are.
     pub fn told_words(self) -> Words<'a> {
-        Words::of(self.words)
+        Words::of(self.words.unwrap_or(&[]))
     }
 
     /// What the call has to say, as far as no file has to be looked at for it.
@@ -54,6 +54,7 @@ impl<'a> Ending<'a> {
         let output = std::str::from_utf8(self.output).unwrap_or("");
         match self.status {
             NO => Trouble::not_valid(words, output),
+            USAGE if self.words.is_none() => Some(Trouble::Words(WordFault::NotText)),
             USAGE => Some(usage_trouble(words)),
             REFUSED => Trouble::refused(words, output),
             OUT_FAULT => Some(Trouble::Output(self.written)),

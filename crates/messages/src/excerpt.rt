@@ -28,6 +28,9 @@ fn is_following(byte: u8) -> bool {
     (0x80..0xc0).contains(&byte)
 }
 
+/// The first byte of a control character that has two bytes, and of some letters.
+const FIRST_OF_TWO: u8 = 0xc2;
+
 /// A byte as it is shown: a terminal obeys control bytes, so these are replaced.
 fn shown(byte: u8) -> u8 {
     if byte == b'\t' || (byte >= b' ' && byte != 0x7f) {
@@ -37,10 +40,21 @@ fn shown(byte: u8) -> u8 {
     }
 }
 
+/// Adds a byte as it is shown. Of a control character that has two bytes it replaces both.
+fn push_byte(message: &mut Vec<u8>, byte: u8) -> Result<(), AllocError> {
+    if message.last().copied() == Some(FIRST_OF_TWO) && (0x80..0xa0).contains(&byte) {
+        message.pop();
+        message.push(b'?')?;
+    } else {
+        message.push(shown(byte))?;
+    }
+    Ok(())
+}
+
 /// Adds bytes as they are shown.
 pub fn push_shown(message: &mut Vec<u8>, bytes: &[u8]) -> Result<(), AllocError> {
     for byte in bytes {
-        message.push(shown(*byte))?;
+        push_byte(message, *byte)?;
     }
     Ok(())
 }
@@ -52,7 +66,7 @@ fn push_first(message: &mut Vec<u8>, bytes: &[u8]) -> Result<(), AllocError> {
         if count >= MOST_AFTER && !is_following(*byte) {
             break;
         }
-        message.push(shown(*byte))?;
+        push_byte(message, *byte)?;
     }
     Ok(())
 }

@@ -1,6 +1,6 @@
 //! What a clause could have gone on with, as far as the text before the fault shows.
 
-use crate::scan::{Scan, is_symbol};
+use crate::scan::Scan;
 use crate::told::Subject;
 use mistake_sentences::{
     ClauseMistake, GoalMistake, HeadMistake, Mistake, OperatorMistake, QueryMistake,
@@ -8,7 +8,7 @@ use mistake_sentences::{
 use mistakes::{gap_mistake, is_closed_later, percent_mistake, start_mistake, term_mistake};
 use std::alloc::{AllocError, Global};
 use std::fmt;
-use token_search::{Bracket, Gap};
+use token_search::{Bracket, Gap, is_symbol};
 
 /// What was expected where a clause cannot go on.
 #[derive(Clone, Copy)]

@@ -57,7 +57,7 @@ impl NoReason {
                 "the grounds of this predicate lack a row that one of its clauses gives, or that it has as a built-in",
             NoReason::Precondition => "the pre rows of this predicate break their rule",
             NoReason::Mode => "a mode on this line is not admitted by the pre rows",
-            NoReason::Refutation => "this line refutes nothing",
+            NoReason::Refutation => "this line refutes nothing, or a row is below 0 at its point",
             NoReason::Wide => "this line needs a number above 2^127 - 1 in absolute value",
         }
     }

@@ -1,7 +1,7 @@
 //! A quick look over a text: which brackets are open, and whether a term or an operator stands last.
 
 use std::alloc::{AllocError, Global};
-use token_search::Bracket;
+use token_search::{Bracket, is_layout, is_symbol};
 
 /// What a byte belongs to.
 #[derive(Clone, Copy)]
@@ -13,6 +13,21 @@ enum Mode {
     Quoted(u8),
     /// The character of `0'`.
     Character,
+    /// What follows a quote there: a second quote, where the character is one.
+    SecondQuote,
+    /// What follows a backslash there.
+    Escape,
+}
+
+impl Mode {
+    /// What follows the first byte of the character of `0'`.
+    fn after_character(byte: u8) -> Mode {
+        match byte {
+            b'\'' => Mode::SecondQuote,
+            b'\\' => Mode::Escape,
+            _ => Mode::Code,
+        }
+    }
 }
 
 /// What stands last.
@@ -80,16 +95,11 @@ impl ClauseScan {
             self.joint = byte;
             self.is_joint = true;
             self.ends_line = false;
-        } else if byte != b'%' && !byte.is_ascii_whitespace() {
+        } else if byte != b'%' && !is_layout(byte) {
             self.is_joint = false;
         }
         self.has_neck = self.has_neck || (byte == b'-' && before == b':');
     }
-}
-
-/// Whether a byte is one of the symbols that operators consist of.
-pub fn is_symbol(byte: u8) -> bool {
-    b"#$&*+-./:<=>?@^~\\".contains(&byte)
 }
 
 /// The bracket that a byte opens after another one.
@@ -126,11 +136,17 @@ impl Scan {
                 self.mode = Mode::Code;
                 self.clause.take(byte, before);
             }
-            Mode::BlockComment if byte == b'/' && before == b'*' => self.mode = Mode::Code,
+            Mode::BlockComment if byte == b'/' && before == b'*' => self.end_comment(),
             // The byte after a backslash is a part of the escape.
             Mode::Quoted(_) if before == b'\\' => self.before = b' ',
             Mode::Quoted(quote) if byte == quote => self.mode = Mode::Code,
-            Mode::Character => self.mode = Mode::Code,
+            Mode::Character => self.mode = Mode::after_character(byte),
+            // `0''` without a third quote is a number and an empty item in quotes.
+            Mode::SecondQuote if byte != b'\'' => {
+                self.mode = Mode::Code;
+                return self.take_code(byte, before);
+            }
+            Mode::SecondQuote | Mode::Escape => self.mode = Mode::Code,
             _ => {}
         }
         Ok(())
@@ -138,7 +154,7 @@ impl Scan {
 
     /// Takes the next byte outside comments and quotes.
     fn take_code(&mut self, byte: u8, before: u8) -> Result<(), AllocError> {
-        if self.is_dot && (byte == b'%' || byte.is_ascii_whitespace()) {
+        if self.is_dot && (byte == b'%' || is_layout(byte)) {
             self.open.clear();
             self.last = Last::Opening;
             self.clause = ClauseScan::new();
@@ -161,7 +177,7 @@ impl Scan {
             b'\'' | b'"' => self.take_quote(byte, before),
             b'*' if before == b'/' => self.take_comment(),
             _ if is_symbol(byte) => self.take_symbol(before),
-            _ if byte.is_ascii_whitespace() => {}
+            _ if is_layout(byte) => {}
             _ => self.last = Last::Operand,
         }
         Ok(())
@@ -177,10 +193,17 @@ impl Scan {
         };
     }
 
-    /// Takes the second byte of a comment, so that its first is not an operator.
+    /// Takes the second byte of a comment, so that its first is not an operator. It is no part of the comment's end.
     fn take_comment(&mut self) {
         self.mode = Mode::BlockComment;
         self.last = self.earlier;
+        self.before = b' ';
+    }
+
+    /// Takes the last byte of a comment, which begins neither a comment nor an operator.
+    fn end_comment(&mut self) {
+        self.mode = Mode::Code;
+        self.before = b' ';
     }
 
     /// Takes a symbol.

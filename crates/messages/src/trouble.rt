@@ -129,7 +129,7 @@ impl<'a> Trouble<'a> {
             }
             Trouble::Memory => "nothing was written: allow more memory, or split the program",
             Trouble::Overflow => {
-                "the answers before it were written; it is the first goal that the last counted step leaves, or that of the query if no step is counted"
+                "the answers before it were written; the goal is the first one that the last counted step leaves, or the first of the query if no step is counted"
             }
             Trouble::NoLoop => {
                 "a greater --depth, up to 12, looks further; `cti run` with --steps 20 shows how the search goes"
@@ -148,7 +148,7 @@ impl fmt::Display for Trouble<'_> {
     fn fmt<W: fmt::Write>(&self, f: &mut fmt::Formatter<W>) -> fmt::Result {
         match self {
             Trouble::Refused(_, place, _) | Trouble::NotValid(place, _) => place.fmt(f)?,
-            Trouble::File(name, _) => f.write_str(name)?,
+            Trouble::File(name, _) if !name.is_empty() => f.write_str(name)?,
             _ => f.write_str("cti")?,
         }
         f.write_str(self.introduction())?;

@@ -50,7 +50,7 @@ impl<'a> ClauseMistake<'a> {
             Self::Space(_) => "leave out the space between `{}` and `(`",
             Self::NoArguments(_) => "write `{}` for `{}()`",
             Self::NoParentheses(_) =>
-                "put the arguments of `{}` in parentheses, or a comma is missing after it",
+                "put the arguments of `{}` in parentheses, or write a comma after it",
             Self::Arguments(..) => "`{}` has {} arguments: put some together in one term",
             Self::Variables(_) =>
                 "this clause has {} variables, and each `_` counts: split it in two",

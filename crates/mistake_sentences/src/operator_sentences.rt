@@ -26,7 +26,7 @@ impl<'a> OperatorMistake<'a> {
     /// Its sentence, with a `{}` for each thing that `shown` gives.
     pub fn sentence(self) -> &'static str {
         match self {
-            Self::Module(_) => "`:` is not an operator here: modules are not read, leave out `{}:`",
+            Self::Module(_) => "`:` is not an operator here: modules are not read; leave out `{}:`",
             Self::SplitNeck => "`: -` is not an operator here: write `:-`",
             Self::Split(_) => "write `{}` without a space in it",
             Self::Neck(_) => "write `:-` for `{}` between a head and its body",

@@ -7,6 +7,8 @@ use std::fmt;
 #[derive(Clone, Copy, Debug, PartialEq, Eq)]
 pub struct ShellWord<'a> {
     text: &'a str,
+    /// Whether it names a file whose name begins with `-`.
+    is_dashed_file: bool,
 }
 
 /// Whether a byte means nothing to a shell.
@@ -17,7 +19,18 @@ fn is_plain(byte: u8) -> bool {
 impl<'a> ShellWord<'a> {
     /// The word of this text.
     pub fn new(text: &'a str) -> ShellWord<'a> {
-        ShellWord { text }
+        ShellWord {
+            text,
+            is_dashed_file: false,
+        }
+    }
+
+    /// The word that names a file. A name that begins with `-` would be taken as an option, so its directory is named.
+    pub fn file(name: &'a str) -> ShellWord<'a> {
+        ShellWord {
+            text: name,
+            is_dashed_file: name.starts_with('-'),
+        }
     }
 
     /// Whether the text needs no quotes.
@@ -28,6 +41,9 @@ impl<'a> ShellWord<'a> {
 
 impl fmt::Display for ShellWord<'_> {
     fn fmt<W: fmt::Write>(&self, f: &mut fmt::Formatter<W>) -> fmt::Result {
+        if self.is_dashed_file {
+            f.write_str("./")?;
+        }
         if self.is_plain() {
             return f.write_str(self.text);
         }

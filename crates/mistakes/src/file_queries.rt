@@ -30,7 +30,7 @@ fn query_at(text: &[u8], at: usize) -> Option<&[u8]> {
 /// The query at a place of a file's text.
 pub fn query_in_file<'a>(file: &'a str, text: &'a [u8], at: usize) -> Option<FileMistake<'a>> {
     let query = query_at(text, at)?;
-    let file = ShellWord::new(file);
+    let file = ShellWord::file(file);
     let query = ShellWord::new(shown_name(query).unwrap_or("QUERY"));
     Some(FileMistake::Query { file, query })
 }

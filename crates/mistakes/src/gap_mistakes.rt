@@ -4,15 +4,15 @@ use crate::foreign_operators::foreign_mistake;
 use crate::infix_operators::{MOST_SYMBOLS, infix_mistake, is_infix};
 use mistake_sentences::{ClauseMistake, GoalMistake, Mistake, OperatorMistake};
 use token_search::{
-    Bracket, Gap, TokenReader, beginning_among, first_name, first_symbols, is_word_byte, last_name,
-    last_word, may_declare, shown_name,
+    Bracket, Gap, TokenReader, beginning_among, first_name, first_symbols, is_layout, is_word_byte,
+    last_name, last_word, may_declare, shown_name,
 };
 
 /// Whether a dot at the front of a text ends a clause.
 fn is_end(text: &[u8]) -> bool {
     match text {
         [b'.'] => true,
-        [b'.', next, ..] => *next == b'%' || next.is_ascii_whitespace() || *next == 11,
+        [b'.', next, ..] => *next == b'%' || is_layout(*next),
         _ => false,
     }
 }

@@ -5,7 +5,7 @@ use crate::culprit::Culprit;
 use crate::lacking::{CallAt, Found};
 use crate::sizing::Sizing;
 use certificate::Fact;
-use listed_programs::{ClauseRow, IntegerGoal, Listed};
+use listed_programs::{ClauseRow, IntegerGoal, Listed, number_of};
 use sequences::Sequence;
 use std::alloc::{AllocError, Global};
 
@@ -80,12 +80,11 @@ impl<'p, 'f> View<'p, '_, 'f> {
     fn call_without_mode(self, number: u32, row: ClauseRow) -> Option<(u32, Option<u32>)> {
         let component = self.listed.table.component_of(row.head);
         let calls = self.listed.table.calls_of(row);
-        let mut place = 0u32;
-        for callee in calls {
-            place = place.saturating_add(1);
+        for (place, callee) in calls.iter().enumerate() {
             let is_other = self.listed.table.component_of(*callee) != component;
             if is_other && self.modes_of(*callee).is_empty() {
-                let at = self.listed.places.call(number, place, calls.len());
+                let call = number_of(place);
+                let at = self.listed.places.call(number, call, calls.len());
                 return Some((*callee, at));
             }
         }
@@ -94,11 +93,9 @@ impl<'p, 'f> View<'p, '_, 'f> {
 
     /// The first such call in the clauses of a component, as a case.
     fn callee_case(self, component: u32) -> Option<Case> {
-        let mut number = 0u32;
-        for row in &self.listed.table.clauses {
-            number = number.saturating_add(1);
+        for (place, row) in self.listed.table.clauses.iter().enumerate() {
             if self.listed.table.component_of(row.head) == component
-                && let Some((callee, at)) = self.call_without_mode(number, *row)
+                && let Some((callee, at)) = self.call_without_mode(number_of(place), *row)
             {
                 let why = Why::Callee(callee);
                 return Some(Case { why, at });
@@ -109,11 +106,9 @@ impl<'p, 'f> View<'p, '_, 'f> {
 
     /// The place of a predicate's first clause.
     fn first_clause(self, pred: u32) -> Option<u32> {
-        let mut number = 0u32;
-        for row in &self.listed.table.clauses {
-            number = number.saturating_add(1);
+        for (place, row) in self.listed.table.clauses.iter().enumerate() {
             if row.head == pred {
-                return self.listed.places.clause(number);
+                return self.listed.places.clause(number_of(place));
             }
         }
         None

@@ -4,7 +4,7 @@ use crate::finding_causes::View;
 use crate::rigid_sets::{AtomSets, RigidSets};
 use crate::truths::arguments_of;
 use crate::walk::Walk;
-use listed_programs::ClauseRow;
+use listed_programs::{ClauseRow, number_of};
 use std::alloc::{AllocError, Global};
 
 /// How many own calls are followed, one after the other.
@@ -158,9 +158,8 @@ impl View<'_, '_, '_> {
         let sets = RigidSets::of(alloc, self.sizing(), clause)?;
         let mut walk = Walk::new(self, &sets, gone.arguments);
         let calls = sets.atoms.get(1..).unwrap_or(&[]);
-        let mut number = 0u32;
-        for atom in calls {
-            number = number.saturating_add(1);
+        for (place, atom) in calls.iter().enumerate() {
+            let number = number_of(place);
             self.note_call(gone, number, *atom, &walk, found)?;
             walk.pass(*atom, calls.get(..number as usize).unwrap_or(calls));
         }
@@ -174,12 +173,10 @@ impl View<'_, '_, '_> {
         component: u32,
         found: &mut Found,
     ) -> Result<(), AllocError> {
-        let mut clause = 0u32;
-        for row in &self.listed.table.clauses {
-            clause = clause.saturating_add(1);
+        for (place, row) in self.listed.table.clauses.iter().enumerate() {
             if self.listed.table.component_of(row.head) == component {
                 let gone = Gone {
-                    clause,
+                    clause: number_of(place),
                     row: *row,
                     arguments: self.listed.arguments_of(row.head),
                     after: None,
@@ -197,14 +194,12 @@ impl View<'_, '_, '_> {
         component: u32,
         found: &mut Found,
     ) -> Result<(), AllocError> {
-        let mut clause = 0u32;
-        for row in &self.listed.table.clauses {
-            clause = clause.saturating_add(1);
+        for (place, row) in self.listed.table.clauses.iter().enumerate() {
             if self.listed.table.component_of(row.head) == component
                 && let Some(weaker) = found.weaker_of(row.head)
             {
                 let gone = Gone {
-                    clause,
+                    clause: number_of(place),
                     row: *row,
                     arguments: weaker.arguments,
                     after: Some(weaker.at),

@@ -3,19 +3,20 @@
 use certificate::{CertCell, Fact};
 
 /// The set of one argument, counted from 0. A predicate has at most 12.
-fn only(argument: u32) -> u32 {
-    1u32.checked_shl(argument).unwrap_or(0)
+pub fn only(argument: usize) -> u32 {
+    match u32::try_from(argument) {
+        Ok(argument) => 1u32.checked_shl(argument).unwrap_or(0),
+        Err(_) => 0,
+    }
 }
 
 /// The arguments whose variables are all among these.
 pub fn known_arguments(sets: &[u64], variables: u64) -> u32 {
     let mut known = 0u32;
-    let mut argument = 0u32;
-    for set in sets {
+    for (argument, set) in sets.iter().enumerate() {
         if *set & !variables == 0 {
             known |= only(argument);
         }
-        argument = argument.saturating_add(1);
     }
     known
 }
@@ -23,12 +24,10 @@ pub fn known_arguments(sets: &[u64], variables: u64) -> u32 {
 /// The variables of these arguments.
 pub fn variables_of(sets: &[u64], arguments: u32) -> u64 {
     let mut variables = 0u64;
-    let mut argument = 0u32;
-    for set in sets {
+    for (argument, set) in sets.iter().enumerate() {
         if arguments & only(argument) != 0 {
             variables |= *set;
         }
-        argument = argument.saturating_add(1);
     }
     variables
 }
@@ -37,7 +36,7 @@ pub fn variables_of(sets: &[u64], arguments: u32) -> u64 {
 pub fn arguments_of(mode: &[u32]) -> u32 {
     let mut arguments = 0u32;
     for number in mode {
-        arguments |= only(number.saturating_sub(1));
+        arguments |= only(number.saturating_sub(1) as usize);
     }
     arguments
 }
@@ -45,12 +44,10 @@ pub fn arguments_of(mode: &[u32]) -> u32 {
 /// The arguments that have this cell in a cube.
 fn with_cell(cube: &[CertCell], wanted: CertCell) -> u32 {
     let mut arguments = 0u32;
-    let mut argument = 0u32;
-    for cell in cube {
+    for (argument, cell) in cube.iter().enumerate() {
         if *cell == wanted {
             arguments |= only(argument);
         }
-        argument = argument.saturating_add(1);
     }
     arguments
 }

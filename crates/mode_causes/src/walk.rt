@@ -59,13 +59,18 @@ impl<'s, 'p, 'c, 'f> Walk<'s, 'p, 'c, 'f> {
         }
     }
 
+    /// Takes note that these calls have succeeded.
+    fn learn_each(&mut self, atoms: &[AtomSets]) {
+        for atom in atoms {
+            self.learn(*atom);
+        }
+    }
+
     /// Takes note once more that these calls have succeeded, until nothing more is known.
     fn learn_again(&mut self, atoms: &[AtomSets]) {
         for _ in 0..MOST_ROUNDS {
             let before = self.known;
-            for atom in atoms {
-                self.learn(*atom);
-            }
+            self.learn_each(atoms);
             if self.known == before {
                 return;
             }

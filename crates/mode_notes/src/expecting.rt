@@ -1,10 +1,9 @@
 //! The fact that a certificate has to have at a place.
 
-use crate::pred_counts::PredCounts;
 use crate::reading::listed_program;
 use crate::wanted::{Wanted, shown_fact};
 use certificate::{Certificate, Fact};
-use listed_programs::Listed;
+use listed_programs::{FactRuns, Listed, number_of};
 use messages::push_shown;
 use std::alloc::{AllocError, Global};
 
@@ -13,8 +12,8 @@ struct Seen<'p> {
     listed: &'p Listed,
     terminates: u32,
     /// The size rows, and the mappings, of each predicate.
-    sizes: PredCounts,
-    measures: PredCounts,
+    sizes: FactRuns,
+    measures: FactRuns,
     by: u64,
     falls: u64,
 }
@@ -38,24 +37,24 @@ impl<'p> Seen<'p> {
         let mut seen = Seen {
             listed,
             terminates: 0,
-            sizes: PredCounts::new(alloc, listed.table.preds.len())?,
-            measures: PredCounts::new(alloc, listed.table.preds.len())?,
+            sizes: FactRuns::new(alloc, listed.table.preds.len())?,
+            measures: FactRuns::new(alloc, listed.table.preds.len())?,
             by: 0,
             falls: 0,
         };
-        for fact in facts {
-            seen.take(fact);
+        for (place, fact) in facts.iter().enumerate() {
+            seen.take(place, fact);
         }
         Ok(seen)
     }
 
-    /// Takes a fact.
-    fn take(&mut self, fact: &Fact) {
+    /// Takes the fact at a place.
+    fn take(&mut self, place: usize, fact: &Fact) {
         match fact {
             Fact::Terminates { .. } => self.terminates = self.terminates.saturating_add(1),
-            Fact::Size { pred, .. } => self.sizes.add(self.listed, pred),
+            Fact::Size { pred, .. } => self.sizes.add(self.listed, pred, place),
             Fact::By { .. } => self.by = self.by.saturating_add(1),
-            Fact::Measure { pred, .. } => self.measures.add(self.listed, pred),
+            Fact::Measure { pred, .. } => self.measures.add(self.listed, pred, place),
             Fact::Falls { .. } => self.falls = self.falls.saturating_add(1),
             _ => {}
         }
@@ -73,13 +72,11 @@ impl<'p> Seen<'p> {
     /// The proof of a size row that is expected: each clause has one for each row of its head.
     fn wanted_proof(&self) -> Option<Wanted> {
         let mut left = self.by;
-        let mut clause = 0u32;
-        for row in &self.listed.table.clauses {
-            clause = clause.saturating_add(1);
-            let rows = self.sizes.count(row.head);
+        for (place, row) in self.listed.table.clauses.iter().enumerate() {
+            let rows = self.sizes.of(row.head).count as u64;
             if left < rows {
                 return Some(Wanted::By {
-                    clause,
+                    clause: number_of(place),
                     index: left.saturating_add(1),
                 });
             }
@@ -95,7 +92,7 @@ impl<'p> Seen<'p> {
         let mut pred = 0u32;
         for _ in &table.preds {
             let component = table.component_of(pred);
-            let count = self.measures.count(pred);
+            let count = self.measures.of(pred).count as u64;
             let first = if table.is_recursive(component) {
                 count
             } else {
@@ -118,10 +115,8 @@ impl<'p> Seen<'p> {
     fn wanted_fall(&self) -> Option<Wanted> {
         let table = &self.listed.table;
         let mut left = self.falls;
-        let mut clause = 0u32;
-        for row in &table.clauses {
-            clause = clause.saturating_add(1);
-            let mappings = self.measures.count(row.head);
+        for (place, row) in table.clauses.iter().enumerate() {
+            let mappings = self.measures.of(row.head).count as u64;
             let component = table.component_of(row.head);
             let own = table
                 .calls_of(*row)
@@ -130,7 +125,7 @@ impl<'p> Seen<'p> {
                 .count();
             let falls = mappings.saturating_mul(own as u64);
             if left < falls {
-                return self.fall_in(clause, left, mappings);
+                return self.fall_in(number_of(place), left, mappings);
             }
             left = left.saturating_sub(falls);
         }
@@ -143,9 +138,7 @@ impl<'p> Seen<'p> {
         let row = table.clause(clause)?;
         let component = table.component_of(row.head);
         let mut left = falls;
-        let mut call = 0u32;
-        for callee in table.calls_of(row) {
-            call = call.saturating_add(1);
+        for (place, callee) in table.calls_of(row).iter().enumerate() {
             if table.component_of(*callee) != component {
                 continue;
             }
@@ -153,7 +146,7 @@ impl<'p> Seen<'p> {
                 let mapping = left.saturating_add(1);
                 return Some(Wanted::Falls {
                     clause,
-                    call,
+                    call: number_of(place),
                     mapping,
                 });
             }
@@ -165,7 +158,7 @@ impl<'p> Seen<'p> {
     /// The fact that is expected in the place of a fall of a clause: a measure, where the clause's head has none.
     fn wanted_at_fall(&self, clause: u32) -> Option<Wanted> {
         let pred = self.listed.table.clause(clause)?.head;
-        if self.measures.count(pred) == 0 {
+        if self.measures.of(pred).count == 0 {
             return Some(Wanted::Measure { pred, mapping: 1 });
         }
         self.wanted_fall()

@@ -2,8 +2,10 @@
 
 use crate::showing::Source;
 use cti_terms::{Atom, Term};
-use mode_causes::{CallAt, View, arguments_of};
+use listed_programs::number_of;
+use mode_causes::{CallAt, View, arguments_of, only};
 use std::alloc::{AllocError, Global};
+use token_search::variable_at;
 
 /// How many variables are named at most.
 const MOST_NAMES: u32 = 4;
@@ -27,19 +29,6 @@ impl Drop for Lacked {
             has_blank: _,
             left: _,
         } = self;
-    }
-}
-
-/// The text of the variable at a place, if one stands there.
-fn variable_at(text: &[u8], at: u32) -> Option<&str> {
-    let rest = text.get(at as usize..).unwrap_or(&[]);
-    let word = rest
-        .split(|byte| !byte.is_ascii_alphanumeric() && *byte != b'_')
-        .next()
-        .unwrap_or(&[]);
-    match word.first() {
-        Some(byte) if byte.is_ascii_uppercase() || *byte == b'_' => std::str::from_utf8(word).ok(),
-        _ => None,
     }
 }
 
@@ -133,14 +122,17 @@ fn asked_of(view: View<'_, '_, '_>, pred: u32) -> u32 {
 /// The variables of these arguments of an atom that are not among the known ones.
 fn unknown_in(view: View<'_, '_, '_>, atom: &Atom, arguments: u32, known: u64) -> u64 {
     let mut variables = 0u64;
-    let mut argument = 0u32;
-    for arg in atom.args.as_slice() {
-        if arguments & 1u32.checked_shl(argument).unwrap_or(0) != 0 {
+    for (argument, arg) in atom.args.as_slice().iter().enumerate() {
+        if arguments & only(argument) != 0 {
             view.sizing().add_rigid(arg, &mut variables);
         }
-        argument = argument.saturating_add(1);
     }
     variables & !known
+}
+
+/// The atom of a call, whose number counts from 1.
+fn atom_of(atoms: &[Atom], call: u32) -> Option<&Atom> {
+    atoms.get(call.checked_sub(1)? as usize)
 }
 
 /// The variables that a call lacks. Those of a disjunction are named by the other calls of its clause.
@@ -161,16 +153,11 @@ pub(crate) fn lacked_by(
     };
     let atoms = clause.body.as_slice();
     let is_disjunction = view.listed.is_disjunction(call.callee);
-    let mut number = 0u32;
-    for atom in atoms {
-        number = number.saturating_add(1);
-        if number == call.call {
-            lacked.left = unknown_in(view, atom, asked_of(view, call.callee), call.known);
-        }
+    if let Some(atom) = atom_of(atoms, call.call) {
+        lacked.left = unknown_in(view, atom, asked_of(view, call.callee), call.known);
     }
-    number = 0;
-    for atom in atoms {
-        number = number.saturating_add(1);
+    for (place, atom) in atoms.iter().enumerate() {
+        let number = number_of(place);
         if number == call.call || is_disjunction {
             let places = view
                 .listed

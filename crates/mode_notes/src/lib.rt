@@ -7,8 +7,8 @@
 //! than the facts do: the calls that a refutation names, what was given up, which call needs what no query gives it. It
 //! depends on `mode_causes` for the causes, on `listed_programs` for the program and its places, on `certificate` for
 //! the facts, on `prolog_reader`, `clause_normal` and `cti_terms` for texts, on `messages` for the form, on
-//! `mistake_sentences` for the names of files in commands, on `warnings` for predicates as they are shown, and on
-//! `thiserror`.
+//! `mistake_sentences` for the names of files in commands, on `warnings` for predicates as they are shown, on
+//! `token_search` for variables, and on `thiserror`.
 #![tactic(auto)]
 
 mod expecting;
@@ -18,7 +18,6 @@ mod lacks_shown;
 mod lists;
 mod note;
 mod noting;
-mod pred_counts;
 mod reading;
 mod showing;
 mod telling;

@@ -50,7 +50,7 @@ fn loop_advice(
     let Some(query) = source.query(alloc, pred)? else {
         return format!(in alloc; "{advice}");
     };
-    let file = ShellWord::new(source.name);
+    let file = ShellWord::file(source.name);
     format!(in alloc;
         "{advice}; `cti loop {file} '{query}'`, with what you know in the place of variables, may show that the query never ends"
     )

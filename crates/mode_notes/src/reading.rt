@@ -8,14 +8,12 @@ use clause_normal::normal;
 use cti_terms::Names;
 use listed_programs::{Listed, Places, ProgramTable};
 use mode_causes::{Causes, View};
-use prolog_reader::read_text;
+use prolog_reader::{MOST_BYTES, read_text};
 use std::alloc::{AllocError, Global};
-
-/// The longest text of a program, in bytes.
-const MOST_BYTES: usize = 1_048_576;
 
 /// The program of a text, if it is one.
 pub(crate) fn listed_program(alloc: Global, text: &[u8]) -> Result<Option<Listed>, AllocError> {
+    // A text that is read is this short, but no contract says so, and `normal` asks for room for more names.
     if text.len() > MOST_BYTES {
         return Ok(None);
     }

@@ -52,8 +52,13 @@ impl Gap<'_> {
     }
 }
 
+/// Whether a byte is layout: a space, or one of the bytes from tab to carriage return.
+pub fn is_layout(byte: u8) -> bool {
+    (9..=13).contains(&byte) || byte == b' '
+}
+
 /// Whether a byte is one of the symbols that operators consist of.
-fn is_symbol(byte: u8) -> bool {
+pub fn is_symbol(byte: u8) -> bool {
     b"#$&*+-./:<=>?@^~\\".contains(&byte)
 }
 
@@ -92,6 +97,19 @@ pub fn last_name(text: &[u8]) -> Option<&[u8]> {
 pub fn first_name(text: &[u8]) -> Option<&[u8]> {
     match text {
         [b'a'..=b'z', ..] => text.split(|byte| !is_word_byte(*byte)).next(),
+        _ => None,
+    }
+}
+
+/// The variable at a place of a text, if one stands there.
+pub fn variable_at(text: &[u8], at: u32) -> Option<&str> {
+    let rest = text.get(at as usize..).unwrap_or(&[]);
+    let word = rest
+        .split(|byte| !is_word_byte(*byte))
+        .next()
+        .unwrap_or(rest);
+    match word {
+        [b'A'..=b'Z' | b'_', ..] => std::str::from_utf8(word).ok(),
         _ => None,
     }
 }

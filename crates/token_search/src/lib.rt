@@ -9,8 +9,8 @@ mod searching;
 mod token_reader;
 
 pub use gap::{
-    Bracket, Gap, first_name, first_symbols, is_word_byte, last_name, last_symbols, last_word,
-    last_word_bytes,
+    Bracket, Gap, first_name, first_symbols, is_layout, is_symbol, is_word_byte, last_name,
+    last_symbols, last_word, last_word_bytes, variable_at,
 };
 pub use searching::{after_last, before_byte, beginning_among, has_part, may_declare, value_of};
 pub use token_reader::{Look, TextToken, TokenReader, shown_name};

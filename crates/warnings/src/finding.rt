@@ -6,8 +6,8 @@ use crate::findings::Findings;
 use crate::parts::{body_of, head_of, pred_in};
 use crate::singletons::push_singletons;
 use crate::warning::Warning;
-use cti_terms::{Names, Pred};
-use indexmap::IndexSet;
+use cti_terms::{Name, Names, Pred};
+use indexmap::{IndexMap, IndexSet};
 use prolog_reader::ReadClause;
 use std::alloc::{AllocError, Global};
 
@@ -38,15 +38,25 @@ fn calls_in(alloc: Global, names: &Names, clauses: &[ReadClause]) -> Result<Vec<
     Ok(calls)
 }
 
-/// The warning about a call of a predicate that has no clause.
-fn warning_of(call: Call, defined: &IndexSet<Pred>) -> Warning {
+/// The arity of the first predicate of each name.
+fn first_arities(
+    alloc: Global,
+    defined: &IndexSet<Pred>,
+) -> Result<IndexMap<Name, u32>, AllocError> {
+    let mut arities = IndexMap::new(alloc);
+    for pred in defined.iter() {
+        if !arities.contains_key(&pred.name) {
+            arities.insert(pred.name, pred.arity)?;
+        }
+    }
+    Ok(arities)
+}
+
+/// The warning about a call of a predicate that has no clause, where predicates with clauses have these names.
+fn warning_of(call: Call, arities: &IndexMap<Name, u32>) -> Warning {
     let Call { at, pred, caller } = call;
-    match defined.iter().find(|other| other.name == pred.name) {
-        Some(other) => Warning::OtherArity {
-            at,
-            pred,
-            arity: other.arity,
-        },
+    match arities.get(&pred.name).copied() {
+        Some(arity) => Warning::OtherArity { at, pred, arity },
         None => Warning::NoClause { at, pred, caller },
     }
 }
@@ -58,10 +68,11 @@ pub(crate) fn push_undefined(
     defined: &IndexSet<Pred>,
     warnings: &mut Vec<Warning>,
 ) -> Result<(), AllocError> {
+    let arities = first_arities(alloc, defined)?;
     let mut told = IndexSet::new(alloc);
     for call in calls {
         if !defined.contains(&call.pred) && told.insert(call.pred)? {
-            warnings.push(warning_of(*call, defined))?;
+            warnings.push(warning_of(*call, &arities))?;
         }
     }
     Ok(())

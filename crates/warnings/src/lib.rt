@@ -3,7 +3,7 @@
 //!
 //! The text that was loaded is read again, and nothing that is answered depends on it. It depends on `prolog_reader`
 //! for clauses with places, on `cti_terms` and `prolog_tokens` for names, on `messages` for the form, on `mistakes`
-//! for certificates, on `indexmap` and on `thiserror`.
+//! for certificates, on `token_search` for variables, on `indexmap` and on `thiserror`.
 #![tactic(auto)]
 
 mod calls;

@@ -11,6 +11,7 @@ use messages::{Ending, Place, push_excerpt, push_help, push_shown};
 use mistakes::is_certificate;
 use prolog_reader::{ReadText, read_query, read_text};
 use std::alloc::{AllocError, Global};
+use token_search::variable_at;
 
 /// How many warnings are written about a text.
 const MOST_WARNINGS: usize = 20;
@@ -34,16 +35,6 @@ fn str_of(names: &Names, name: Name) -> &str {
     std::str::from_utf8(text_of(names, name)).unwrap_or("?")
 }
 
-/// The text of the variable at a place.
-fn variable_at(text: &[u8], at: u32) -> &str {
-    let rest = text.get(at as usize..).unwrap_or(&[]);
-    let word = rest
-        .split(|byte| !byte.is_ascii_alphanumeric() && *byte != b'_')
-        .next()
-        .unwrap_or(&[]);
-    std::str::from_utf8(word).unwrap_or("?")
-}
-
 /// The variables at some places, as they are said.
 fn variables_at(alloc: Global, text: &[u8], places: &[u32]) -> Result<String, AllocError> {
     let mut said = String::new(alloc);
@@ -52,7 +43,7 @@ fn variables_at(alloc: Global, text: &[u8], places: &[u32]) -> Result<String, Al
             said.push_str(", ")?;
         }
         said.push_str("`")?;
-        said.push_str(variable_at(text, *at))?;
+        said.push_str(variable_at(text, *at).unwrap_or("?"))?;
         said.push_str("`")?;
     }
     Ok(said)

@@ -7,6 +7,7 @@ use mistake_sentences::{ShellWord, Shown};
 /// Why the words are not a command.
 #[derive(Clone, Copy)]
 pub enum WordFault<'a> {
+    NotText,
     NoCommand,
     UnknownCommand(&'a str),
     FileFirst(ShellWord<'a>),
@@ -33,12 +34,13 @@ impl<'a> WordFault<'a> {
     /// What it is shown as.
     pub fn sentence(self) -> &'static str {
         match self {
+            Self::NotText => "the words are not UTF-8",
             Self::NoCommand => "a command is missing",
             Self::UnknownCommand(_) => "`{}` is not a command",
             Self::FileFirst(_) => "a command comes first: `cti infer {}`",
             Self::UnknownOption(_) => "`{}` is not an option of this command",
-            Self::Missing(..) => "`cti {}` needs the word {}",
-            Self::NoFile(..) => "`cti {}` needs the word FILE before `{}`",
+            Self::Missing(..) => "`cti {}` needs one more word: {}",
+            Self::NoFile(..) => "`cti {}` needs a file's name before `{}`",
             Self::Extra(_) => "`{}` is one word too many",
             Self::BareValue(..) => "`{}` is one word too many: write `{} {}`",
             Self::OneWord(..) => "`cti {}` takes one word, {}: `{}` is one too many",
@@ -55,7 +57,7 @@ impl<'a> WordFault<'a> {
         // An array of fixed texts alone would have another lifetime than those with words.
         let none: &'a str = "";
         match self {
-            Self::NoCommand | Self::Other => [Shown::Nothing; 3],
+            Self::NotText | Self::NoCommand | Self::Other => [Shown::Nothing; 3],
             Self::FileFirst(word) => [Shown::Word(word), Shown::Nothing, Shown::Nothing],
             Self::UnknownCommand(word)
             | Self::UnknownOption(word)
@@ -74,6 +76,7 @@ impl<'a> WordFault<'a> {
     /// What to do about it.
     pub fn advice(self) -> &'static str {
         match self {
+            Self::NotText => "give the file another name, and write a query in UTF-8",
             Self::NoCommand | Self::UnknownCommand(_) | Self::FileFirst(_) => {
                 "the commands are infer, check, run, gen, lex, loop and session"
             }
@@ -85,9 +88,7 @@ impl<'a> WordFault<'a> {
             | Self::BareValue(..)
             | Self::OneWord(Command::Gen, _)
             | Self::Other => "the usage has a line for each command",
-            Self::OneWord(..) => {
-                "call it for each file by itself; a name with spaces stands in quotes"
-            }
+            Self::OneWord(..) => { "call it once for each file; put a name with spaces in quotes" }
             Self::Extra(_) => "put a query or a name with spaces in quotes",
             Self::NoValue(option) | Self::BadValue(option, _) => option.advice(),
             Self::BadCount(_) => "write a number from 1 to 300",

@@ -44,7 +44,7 @@ fn command_fault<'a>(word: Option<&'a str>) -> Option<WordFault<'a>> {
     };
     match Command::of(word) {
         Some(_) => None,
-        None if word.ends_with(".pl") => Some(WordFault::FileFirst(ShellWord::new(word))),
+        None if word.ends_with(".pl") => Some(WordFault::FileFirst(ShellWord::file(word))),
         None => Some(WordFault::UnknownCommand(word)),
     }
 }
