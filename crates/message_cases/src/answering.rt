@@ -27,7 +27,6 @@ pub(crate) fn answer(
     let (program, certificate) = (call.text(PROGRAM), call.text(CERTIFICATE));
     match question {
         Question::Message => message_about(alloc, call),
-        Question::NoText => message_without_text(alloc, call),
         Question::All => all_about(alloc, call),
         Question::FirstLine => first_line(alloc, call),
         Question::LastLine => last_line(alloc, call),
@@ -49,13 +48,6 @@ pub(crate) fn answer(
 fn message_about(alloc: Global, call: &Call) -> Result<Vec<u8>, AllocError> {
     let words = call.words(alloc)?;
     call_message(alloc, call.ending(&words))
-}
-
-/// The message about a call whose words are not UTF-8.
-fn message_without_text(alloc: Global, call: &Call) -> Result<Vec<u8>, AllocError> {
-    let mut ending = call.ending(&[]);
-    ending.words = None;
-    call_message(alloc, ending)
 }
 
 /// The message about a call, the warnings about its texts and the notes about what it wrote.

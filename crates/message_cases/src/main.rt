@@ -13,8 +13,7 @@
 //! Any other line is a comment. A question ends a case, and the next case begins without texts and words: copy a case to add one.
 //! The questions are:
 //!
-//! - `message`: the message about the call; `first line`, `last line`: that line of it; `message without text`: the message if the
-//!   words are not UTF-8.
+//! - `message`: the message about the call; `first line`, `last line`: that line of it.
 //! - `all`: the message, the warnings and the notes about the call.
 //! - `words`: the two words of the call that name files or are a query, each in a line.
 //! - `refusal NUMBER`, `reason NUMBER`: the sentence of that kind of refusal, or of that reason of a No, and its usual advice.

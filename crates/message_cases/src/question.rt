@@ -8,8 +8,6 @@ use std::io::ErrorKind;
 pub(crate) enum Question {
     /// The message about the call.
     Message,
-    /// The message about the call, if its words are not UTF-8.
-    NoText,
     /// All that is said about the call.
     All,
     /// The first line of the message.
@@ -41,7 +39,6 @@ impl Question {
     pub(crate) fn of(words: &str) -> Option<Question> {
         match words {
             "message" => Some(Question::Message),
-            "message without text" => Some(Question::NoText),
             "all" => Some(Question::All),
             "first line" => Some(Question::FirstLine),
             "last line" => Some(Question::LastLine),
