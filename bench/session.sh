@@ -1,5 +1,6 @@
 #!/usr/bin/env bash
-# Times `cti session` outside the gate: texts of 2,000 and of 16,000 clauses that are added, one clause that comes and goes a thousand times, and a
+# Times `cti session` outside the gate: texts of 2,000 and of 16,000 clauses that are added, 16,000 rules of as many predicates, 2,000 and 16,000
+# such rules after a first one that was asked for, one clause that comes and goes a thousand times, and a
 # library of 300 predicates whose modes are asked for after each of 20 edits, beside `cti infer` of the whole library. Then the generated
 # program of 300 predicates, in which a clause of one that three predicates reach comes and goes, with modes after each edit: what one edit
 # takes beside `cti infer` of the whole program.
@@ -29,6 +30,16 @@ def added(line):
     return f"add(({line[:-1]})).\n"
 
 
+def rules(first, count):
+    """Rules of as many predicates, each of which calls itself."""
+    return [f"p{k}(X) :- p{k}(X)." for k in range(first, count)]
+
+
+def after_one(count):
+    """Rules that are added after the first one's modes were asked for."""
+    return "".join(map(added, rules(0, 1))) + "modes(p0/1).\n" + "".join(map(added, rules(1, count))) + "modes(p0/1).\n"
+
+
 library = chain(300)
 text = "".join(map(added, library))
 leaf = added("q([H|T]) :- q(T).")
@@ -36,6 +47,9 @@ numbered = len(library) + 1
 texts = {
     "adds_2000": "".join(map(added, chain(1000))) + "modes(p0/2).\n",
     "adds_16000": "".join(added(f"f({k}).") for k in range(16000)) + "modes(f/1).\n",
+    "rules_16000": "".join(map(added, rules(0, 16000))) + "modes(p0/1).\n",
+    "after_one_2000": after_one(2000),
+    "after_one_16000": after_one(16000),
     "once": text + leaf + f"del({numbered}).\nmodes(p0/2).\n",
     "thousand": text + (leaf + f"del({numbered}).\n") * 1000 + "modes(p0/2).\n",
     "asked": text + (leaf + f"modes(q/1).\ndel({numbered}).\nmodes(p0/2).\n") * 10,
@@ -72,7 +86,7 @@ again = f"del({len(clauses)}).\nmodes(p300/2).\nadd(({leaf})).\nmodes(p300/2).\n
 PYTHON
 
 python3 bench/timed.py "$folder/library.pl" "$program" infer "$folder/library.pl"
-for name in adds_2000 adds_16000 once thousand asked; do
+for name in adds_2000 adds_16000 rules_16000 after_one_2000 after_one_16000 once thousand asked; do
     python3 bench/timed.py "$folder/$name.pl" "$program" session "$folder/$name.pl"
 done
 python3 bench/timed.py "$folder/generated.pl" "$program" infer "$folder/generated.pl"

@@ -10,6 +10,7 @@ pub mod Notes
 pub mod OwnClauses
 pub mod Passes
 pub mod Passing
+pub mod Readies
 pub mod Repeats
 pub mod Results
 pub mod Shown

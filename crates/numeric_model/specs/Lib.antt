@@ -2,6 +2,7 @@ pub mod Filling
 pub mod Noting
 pub mod Parts
 pub mod Proved
+pub mod Ready
 pub mod Repeating
 pub mod Running
 pub mod States

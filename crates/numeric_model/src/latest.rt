@@ -60,6 +60,13 @@ impl Latest {
         }
     }
 
+    /// The rows of these predicates did not change.
+    pub(crate) fn forget(&mut self, preds: &[PredId]) {
+        for pred in preds {
+            put(&mut self.changes, pred.0 as usize, 0);
+        }
+    }
+
     /// Whether the rows of these atoms' predicates are those that the step at a place read.
     pub(crate) fn have_stayed(&self, body: &[Atom], place: usize) -> bool
         ensures { result ≡ true → HaveStayed self.now.changes.items place body.now }

@@ -4,7 +4,8 @@
 //! component changes no rows. Over any domain of size rows the steps are a legal chain, as `termination_model` defines
 //! it, and each row of the chain's last rows has its proof for each clause.
 //!
-//! Components can also be solved one by one: `solve_component` solves one above the rows of those that it calls.
+//! Components can also be solved one by one: `solve_component` solves one above the rows of those that it calls, in the
+//! time of the program, and `State::solve` solves one after another in one state, each in its own time.
 //!
 //! Depends on `polyhedra`, whose trait of domains says all that is used of a domain, and on `termination_model`.
 #![tactic(auto)]
@@ -13,6 +14,7 @@ mod chain;
 mod clause_lists;
 mod component;
 mod filled;
+mod in_turn;
 mod latest;
 mod noting;
 mod repeating;
@@ -28,6 +30,8 @@ mod value;
 pub use chain::Chain;
 pub use clause_lists::own_clauses;
 pub use component::solve_component;
+pub use in_turn::ComponentClauses;
 pub use solving::solve;
+pub use state::State;
 pub use step::Step;
 pub use termination_model::How;

@@ -6,6 +6,8 @@ ghost use Rattle.linear_rows.specs.Plain.{plain_rows};
 ghost use Rattle.linear_rows.specs.declared.row.Rows.{Rows};
 ghost use Rattle.termination_model.specs.chains.Chain.{start_rows};
 ghost use Rattle.termination_model.specs.sizes.Sizes.{rows_of};
+ghost use Rattle.call_components.specs.Partition.{Partition};
+ghost use Rattle.numeric_model.specs.Ready.{IsReady};
 ghost use Rattle.numeric_model.specs.Repeating.{IsLastStep, IsMarked};
 ghost use Rattle.numeric_model.specs.States.{AreStatedTo, IfReplaced, IsAccepted, IsAdded, IsFresh, IsState, IsStatedAt, every};
 
@@ -26,13 +28,13 @@ use std::rc::Rc;
 use termination_model::{SizeRows, Sizes, stated_rows};
 
 /// The rows of each predicate while a chain goes on.
-pub(crate) struct State<D> {
+pub struct State<D> {
     /// The rows, as the systems of clauses read them. There are no proofs here.
-    pub(crate) sizes: Sizes,
+    pub sizes: Sizes,
     /// For each predicate the value that lists its rows.
     pub(crate) values: Vec<Value<D>>,
     /// For each clause the proofs that its last step gave.
-    pub(crate) proofs: Vec<Sequence<Multipliers>>,
+    pub proofs: Vec<Sequence<Multipliers>>,
     /// The steps so far.
     pub(crate) steps: Sequence<Step>,
     /// Which of them were the last ones.
@@ -53,10 +55,11 @@ impl<D: Drop> Drop for State<D> {
 
 impl<D: Domain> State<D> {
     /// Built-in predicates have their stated rows, all others are empty, and there are no steps.
-    pub(crate) fn start(alloc: Global, p: &Program) -> Result<State<D>, AllocError>
+    pub fn start(alloc: Global, p: &Program) -> Result<State<D>, AllocError>
         ensures state { IfOk result (IsState D.width D.listed every p.now) }
         ensures rows { IfOk result (λ s. rows_of s.sizes.rows ≡ start_rows p.now) }
         ensures steps { IfOk result (λ s. s.steps ≡ []) }
+        ensures ready { IfOk result (λ s. (comps : Partition) → IsReady D.width D.listed p.now comps 0 s) }
     {
         let mut state = State {
             sizes: Sizes {

@@ -15,7 +15,7 @@ ghost use Rattle.numeric_model.specs.Stepping.{IsStepOf, MayBeWeak, HoldsOnImage
 use crate::filled::Filled;
 use crate::stepped::Stepped;
 use linear_rows::{Multipliers, Numbers, Row, System};
-use polyhedra::{Domain, Made, Widened};
+use polyhedra::{Domain, Made, Widened, bottom_row};
 use sequences::Sequence;
 use simplex::Held;
 use std::alloc::{AllocError, Global};
@@ -26,18 +26,6 @@ fn count<D: Domain>(value: &D) -> usize
     ensures { result ≡ length (D.listed value.now) }
 {
     value.rows().list.len()
-}
-
-/// The row of constant -1 and zeros.
-fn bottom_row(alloc: Global, n: usize) -> Result<Row, AllocError>
-    ensures row { IfOk result (λ r. plain_row r ≡ bottom_row n) }
-    ensures width { IfOk result (λ r. length r.coeffs ≡ n) }
-{
-    let coeffs = Numbers::from_vec(vec![in alloc; 0; n]?);
-    Ok(Row {
-        constant: -1,
-        coeffs,
-    })
 }
 
 /// A weak step keeps these of the old rows.

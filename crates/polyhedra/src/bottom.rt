@@ -8,7 +8,7 @@ use linear_rows::{Numbers, Row};
 use std::alloc::{AllocError, Global};
 
 /// The row of constant -1 and the given number of zeros.
-pub(crate) fn bottom_row(alloc: Global, n: usize) -> Result<Row, AllocError>
+pub fn bottom_row(alloc: Global, n: usize) -> Result<Row, AllocError>
     ensures row { IfOk result (λ r. plain_row r ≡ bottom_row n) }
     ensures width { IfOk result (λ r. length r.coeffs ≡ n) }
 {

@@ -19,6 +19,7 @@ mod made;
 mod poly;
 mod widened;
 
+pub use bottom::bottom_row;
 pub use domain::Domain;
 pub use made::Made;
 pub use poly::Poly;

@@ -1,5 +1,5 @@
--- The empty program has no components, and whatever was found of it is nothing. Where no clause is kept, nothing stands.
-use Rattle.std.proofs.Common.{◌≡◌, ℕ, zero, suc, ◌-◌, ◌<◌, ℤ, Bool, List, [], ◌∷◌, length, replicate, slice_get, Option, None, Some, refl, ap, sym, ◌∙◌, arith}
+-- The empty program has no components, and whatever was found of it is nothing.
+use Rattle.std.proofs.Common.{◌≡◌, ℕ, zero, suc, ◌<◌, ℤ, Bool, List, [], ◌∷◌, length, replicate, slice_get, Option, None, Some, refl, ap, sym, ◌∙◌, arith}
 use Rattle.call_components.specs.Partition.{Partition, AreComponents}
 use Rattle.call_components.proofs.Lists.{has_contains}
 use Rattle.cti_terms.specs.Listing.{Listing}
@@ -7,11 +7,7 @@ use Rattle.cti_terms.specs.Tree.{Tree}
 use Rattle.linear_rows.specs.declared.row.Rows.{Rows}
 use Rattle.numeric_model.specs.declared.step.Step.{Step}
 use Rattle.termination_model.proofs.Lists.{place_below}
-use Rattle.termination_model.specs.chains.Chain.{clauses_of}
-use Rattle.solved_program.specs.Kept.{AreKept, KeepsNone}
-use Rattle.solved_program.specs.Standing.{AreSameClauses, KeepValues}
-use Rattle.solved_program.specs.declared.edit.Edit.{Edit}
-use Rattle.solved_program.proofs.Clauses.{Numbered}
+use Rattle.solved_program.specs.Kept.{AreKept}
 use Rattle.solved_program.specs.Solved.{AreSolved}
 use Rattle.solved_program.specs.declared.solved_sizes.SolvedSizes.{SolvedSizes}
 
@@ -38,16 +34,6 @@ none_kept p new kept is = record {
   each = ap length is ∙ as_many (length new.clauses);
   same = λ i j y at there'. absurd (none_there (length new.clauses) i j (ap (λ (xs : List (Option ℕ)). slice_get xs i) (sym is) ∙ at));
 }
-
--- where no clause is kept, no component stands for another one
-none_same : {X : Type 0} (comps new_comps : Partition) (c d : ℕ) (old now : ℕ → X) (kept : List (Option ℕ)) (ks ls : List Numbered) → AreSameClauses comps new_comps c d old now kept ks ls → (ls ≡ [] → ⊥) → KeepsNone kept → ⊥
-none_same comps new_comps c d old now kept ks [] same some none = some refl
-none_same comps new_comps c d old now kept [] (l ∷ ls) same some none = same
-none_same comps new_comps c d old now kept (k ∷ ks) (l ∷ ls) same some none = none (l.0 - 1) k.0 same.0.kept_as
-
-pub none_stands : {X : Type 0} (e : Edit) (old now : ℕ → X) → KeepsNone e.kept.now → KeepValues e old now
-none_stands e old now none b c lt stands q r x at there is =
-    absurd (none_same e.components_before.now e.components.now b c old now e.kept.now (clauses_of e.before.now e.components_before.now b) (clauses_of e.after.now e.components.now c) stands.clauses stands.some none)
 
 -- ---- no components
 no_members : (members : List (List ℕ)) (of : List ℕ) → length of ≡ 0 → ((c : ℕ) (ms : List ℕ) → slice_get members c ≡ Some ms → (0 < length ms) × ((a : ℕ) → slice_get ms 0 ≡ Some a → slice_get of a ≡ Some c)) → length members ≡ 0

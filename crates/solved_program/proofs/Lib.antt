@@ -1,8 +1,8 @@
+pub mod Above
 pub mod Anew
 pub mod CarriedParts
 pub mod CarriedRows
 pub mod CarriedValues
-pub mod ChainRuns
 pub mod Clauses
 pub mod Comparisons
 pub mod Empty
@@ -10,8 +10,6 @@ pub mod GroundRows
 pub mod MemberMarks
 pub mod Marks
 pub mod Names
-pub mod OneRun
-pub mod OwnSteps
 pub mod Pairs
 pub mod Parts
 pub mod PredMarks

@@ -23,10 +23,6 @@ pub record AreKept (p new : Listing) (kept : List (Option ℕ)) : Type 0 where
   pub each : length kept ≡ length new.clauses
   pub same : (i j : ℕ) (y : Clause) → slice_get kept i ≡ Some (Some j) → slice_get new.clauses i ≡ Some y → IsKeptAs p new j y
 
--- no clause is kept
-abbrev pub KeepsNone : List (Option ℕ) → Type 0
-KeepsNone kept = (i j : ℕ) → slice_get kept i ≡ Some (Some j) → ⊥
-
 -- two programs with their components, and the clauses that were kept
 pub record IsEdit (e : Edit) : Type 0 where
   pub components_before : AreComponents e.before.now e.components_before.now

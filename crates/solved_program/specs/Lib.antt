@@ -4,7 +4,6 @@ pub mod EditClauses
 pub mod Grounds
 pub mod Kept
 pub mod Marks
-pub mod OwnSteps
 pub mod Renumbered
 pub mod Resolving
 pub mod Solved

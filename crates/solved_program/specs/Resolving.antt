@@ -1,13 +1,15 @@
 -- Private.
 -- How far the size rows of a program after an edit have come.
-use Rattle.std.specs.Prelude.{◌≡◌, ℕ, ℤ, Bool, List, [], ◌∷◌, ◌++◌, length, map, slice_get, Some}
-use Rattle.call_components.specs.Partition.{Partition}
+use Rattle.std.specs.Prelude.{◌≡◌, ℕ, ◌+◌, ◌<◌, ℤ, Bool, List, [], ◌∷◌, ◌++◌, length, map, slice_get, Some}
+use Rattle.call_components.specs.Partition.{Partition, IsIn}
 use Rattle.cti_terms.specs.Listing.{Listing}
 use Rattle.cti_terms.specs.Tree.{Tree}
 use Rattle.numeric_model.specs.Parts.{IsPartOf}
-use Rattle.numeric_model.specs.Running.{AreOwnClauses}
+use Rattle.numeric_model.specs.Ready.{IsReady}
+use Rattle.numeric_model.specs.Running.{AreOwnClauses, rows_in}
 use Rattle.numeric_model.specs.States.{plain_step}
 use Rattle.numeric_model.specs.declared.chain.Chain.{Chain}
+use Rattle.numeric_model.specs.declared.state.State.{State}
 use Rattle.numeric_model.specs.declared.step.Step.{Step}
 use Rattle.linear_rows.specs.declared.row.Rows.{Rows}
 use Rattle.termination_model.specs.sizes.Sizes.{AreSizes, rows_of}
@@ -18,6 +20,7 @@ use Rattle.solved_program.specs.Renumbered.{in_turn}
 use Rattle.solved_program.specs.Solved.{AreSolvedTo}
 use Rattle.solved_program.specs.Standing.{KeepValuesTo, StandsFor}
 use Rattle.solved_program.specs.Taken.{AreTaken, place_of}
+use Rattle.solved_program.specs.declared.progress.Progress.{Progress}
 use Rattle.solved_program.specs.declared.resolving.Sources.{Sources}
 use Rattle.solved_program.specs.declared.solved_sizes.SolvedSizes.{SolvedSizes}
 
@@ -41,6 +44,19 @@ pub record AreResolvedTo (speaks : List ℤ → Bool) (expression : ℕ → Tree
   pub marked : AreMarkedTo s.edit.now n (rows_of s.old.now.sizes.rows) (rows_of now.sizes.rows) marks
   pub stayed : KeepValuesTo s.edit.now n (rows_of s.old.now.sizes.rows) (rows_of now.sizes.rows)
   pub later : AreLaterCarried s.edit.now.before.now s.edit.now.after.now s.edit.now.components.now s.edit.now.kept.now s.old.now.sizes.rows s.old.now.sizes.proofs n now.sizes.rows now.sizes.proofs
+
+module _ {D : Type 0} (width : D → ℕ) (listed : D → List (List ℤ)) (s : Sources) where
+  -- the component c is done in a state: its members have these rows, and all other predicates those that they had
+  pub record IsDone (c : ℕ) (rows : List Rows) (old new : State D) : Type 0 where
+    pub ready : IsReady width listed s.edit.now.after.now s.edit.now.components.now (c + 1) new
+    pub members : (q : ℕ) → IsIn s.edit.now.components.now c q → rows_in new q ≡ rows_of rows q
+    pub others : (q : ℕ) → (IsIn s.edit.now.components.now c q → ⊥) → rows_in new q ≡ rows_in old q
+
+  -- the components below n are resolved, and are done in a state that has their rows
+  pub record IsProgress (speaks : List ℤ → Bool) (expression : ℕ → Tree → List ℤ) (n : ℕ) (progress : Progress D) (marks : List Bool) : Type 0 where
+    pub resolved : AreResolvedTo speaks expression s n progress.solved marks
+    pub ready : IsReady width listed s.edit.now.after.now s.edit.now.components.now n progress.state
+    pub same : (q d : ℕ) → IsIn s.edit.now.components.now d q → d < n → rows_in progress.state q ≡ rows_of progress.solved.sizes.rows q
 
 -- the steps of an old component are those of one more component, on the clauses of these numbers
 pub record IsCarriedPart (steps : List Step) (own : List ℕ) (old now : SolvedSizes) : Type 0 where

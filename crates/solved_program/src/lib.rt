@@ -7,12 +7,12 @@
 //!
 //! `resolve_sizes` finds the size rows of a program after an edit of it. It goes through the new components, callees
 //! first, over tables that begin with the old rows and proofs, so a component that is taken over only gets its steps,
-//! under the new numbers of its clauses. Terms are not compared: an edit says of each new clause which old clause it is,
-//! and components are compared by these numbers. A component without clauses is solved each time.
+//! under the new numbers of its clauses. All others are solved one after another in one state, each in its own time.
+//! Terms are not compared: an edit says of each new clause which old clause it is, and components are compared by these
+//! numbers. A component without clauses is solved each time.
 //!
 //! `resolve_grounds` does the same with ground rows, in a table of diagrams that goes from one edit to the next. A program
-//! that was not there before is an edit of the empty program. Where no clause is kept, `solve_sizes` finds the size rows
-//! in one run of all components, since each one that is solved by itself takes the time of the whole program.
+//! that was not there before is an edit of the empty program.
 //!
 //! `StandsFor` says when a component stands for an old one, over any value for each predicate, so that it serves other
 //! engines too. `stayed_rows` and `Sources::standing` decide it by the size rows that have come out.
@@ -29,10 +29,10 @@ mod edit_clauses;
 mod grounds;
 pub mod laws;
 mod marking;
+mod progress;
 mod renumbering;
 mod resolving;
 mod solved_sizes;
-mod solving;
 mod standing;
 mod taking;
 
@@ -42,4 +42,3 @@ pub use grounds::{carried_sets, resolve_grounds};
 pub use marking::stayed_rows;
 pub use resolving::{Sources, resolve_sizes};
 pub use solved_sizes::SolvedSizes;
-pub use solving::solve_sizes;

@@ -1,12 +1,13 @@
 //! The size rows of a program after an edit.
 
 ghost use Rattle.std.specs.Prelude.{◌≡◌, ◌≤◌, ◌<◌, ◌+◌, ℕ, List, IfOk, IfSome, IsNone, OnOk, Some, All, length, map};
-ghost use Rattle.std.specs.Prelude.{false, slice_get, true};
+ghost use Rattle.std.specs.Prelude.{slice_get};
 ghost use Rattle.call_components.specs.Numbers.{number_of};
 ghost use Rattle.termination_model.specs.sizes.Sizes.{AreSizes, rows_of};
-ghost use Rattle.solved_program.specs.Kept.{IsEdit, KeepsNone};
+ghost use Rattle.numeric_model.specs.Ready.{IsReady, chain_of};
+ghost use Rattle.solved_program.specs.Kept.{IsEdit};
 ghost use Rattle.solved_program.specs.Marks.{AreMarked, StandsMarked};
-ghost use Rattle.solved_program.specs.Resolving.{AreResolvedTo, AreSources, IsCarriedFrom, IsPartTaken};
+ghost use Rattle.solved_program.specs.Resolving.{AreSources, IsCarriedFrom, IsDone, IsPartTaken, IsProgress};
 ghost use Rattle.solved_program.specs.Resolving.{IsSolvedAt};
 ghost use Rattle.solved_program.specs.Solved.{AreSolved};
 ghost use Rattle.solved_program.specs.Standing.{KeepValues};
@@ -15,16 +16,15 @@ use crate::carrying::carried;
 use crate::edit::Edit;
 use crate::edit_clauses::EditClauses;
 use crate::marking::{mark_all, mark_same_rows};
+use crate::progress::Progress;
 use crate::renumbering::renumbered;
 use crate::solved_sizes::SolvedSizes;
-use crate::solving::solve_sizes;
 use crate::taking::{take_proofs, take_rows};
 use cti_terms::PredId;
-use numeric_model::{Chain, own_clauses, solve_component};
+use numeric_model::{ComponentClauses, State, Step, own_clauses};
 use polyhedra::Domain;
 use sequences::Sequence;
 use std::alloc::{AllocError, Global};
-use std::mem;
 use term_size::Norm;
 
 /// What the size rows after an edit are made from.
@@ -39,24 +39,24 @@ pub struct Sources<'a> {
 }
 
 /// Takes the rows of these members, the proofs of these clauses, and the steps.
-fn take_part(
+fn take_part<D: Domain>(
     alloc: Global,
     members: &[PredId],
     own: &[u32],
-    chain: &mut Chain,
+    state: &State<D>,
+    steps: Sequence<Step>,
     solved: &mut SolvedSizes,
 ) -> Result<(), AllocError>
-    requires members { All (λ q. q.0 < length chain.old.sizes.rows) members.now }
-    requires own { All (λ k. (1 ≤ k) × (k ≤ length chain.old.sizes.proofs)) own.now }
-    requires rows { length chain.old.sizes.rows ≡ length solved.old.sizes.rows }
-    requires proofs { length chain.old.sizes.proofs ≡ length solved.old.sizes.proofs }
-    ensures { OnOk result (IsPartTaken
-        (map number_of members.now) own.now chain.old solved.old solved.new) }
+    requires members { All (λ q. q.0 < length state.now.sizes.rows) members.now }
+    requires own { All (λ k. (1 ≤ k) × (k ≤ length state.now.proofs.items)) own.now }
+    requires rows { length state.now.sizes.rows ≡ length solved.old.sizes.rows }
+    requires proofs { length state.now.proofs.items ≡ length solved.old.sizes.proofs }
+    ensures { OnOk result (IsPartTaken (map number_of members.now) own.now
+        (chain_of steps state.now) solved.old solved.new) }
 {
     let sizes = &mut solved.sizes;
-    take_rows(alloc, members, &chain.sizes.rows, &mut sizes.rows)?;
-    take_proofs(alloc, own, &chain.sizes.proofs, &mut sizes.proofs)?;
-    let steps = mem::replace(&mut chain.steps, Sequence::new(alloc));
+    take_rows(alloc, members, &state.sizes.rows, &mut sizes.rows)?;
+    take_proofs(alloc, own, state.proofs.as_slice(), &mut sizes.proofs)?;
     solved.steps.push(steps)
 }
 
@@ -82,22 +82,33 @@ impl Sources<'_> {
     }
 
     /// Takes over the part of an old component, whose rows and proofs are there already.
-    fn carry(
+    fn carry<D: Domain>(
         &self,
         alloc: Global,
         before: u32,
         c: u32,
-        solved: &mut SolvedSizes,
+        progress: &mut Progress<D>,
     ) -> Result<(), AllocError>
+        requires sources { AreSources self.now }
         requires before { before < length self.now.old.now.steps }
-        requires inner { c < length self.now.own.now }
+        requires inner { c < length self.now.edit.now.components.now.members }
         requires some { (own : List ℕ) → slice_get self.now.own.now c ≡ Some own → 0 < length own }
-        ensures { OnOk result (IsCarriedFrom self.now before c solved.old solved.new) }
+        requires rows { AreSizes self.now.edit.now.after.now.preds progress.old.solved.sizes.rows }
+        requires ready { IsReady D.width D.listed self.now.edit.now.after.now
+            self.now.edit.now.components.now c progress.old.state }
+        ensures carried { OnOk result
+            (IsCarriedFrom self.now before c progress.old.solved progress.new.solved) }
+        ensures done { OnOk result (IsDone D.width D.listed self.now c
+            progress.old.solved.sizes.rows progress.old.state progress.new.state) }
     {
         let steps = self.old.steps.get(before as usize);
         let own = self.own[c as usize].as_slice();
         let carried = renumbered(alloc, steps.as_slice(), own)?;
-        solved.steps.push(carried)
+        let members = self.edit.components.members(c);
+        let rows = &mut progress.state.sizes.rows;
+        take_rows(alloc, members, &progress.solved.sizes.rows, rows)?;
+        progress.solved.steps.push(carried)?;
+        Ok(())
     }
 
     /// Solves a component above the rows so far, and marks the members whose rows stayed.
@@ -106,33 +117,40 @@ impl Sources<'_> {
         alloc: Global,
         norm: &N,
         c: u32,
-        solved: &mut SolvedSizes,
+        progress: &mut Progress<D>,
         stayed: &mut [bool],
     ) -> Result<(), AllocError>
         requires sources { AreSources self.now }
-        requires rows { AreSizes self.now.edit.now.after.now.preds solved.old.sizes.rows }
-        requires proofs { length solved.old.sizes.proofs
-            ≡ length self.now.edit.now.after.now.clauses }
+        requires progress { IsProgress D.width D.listed self.now D.speaks
+            (N.expression norm.now) c progress.old stayed.old }
         requires inner { c < length self.now.edit.now.components.now.members }
-        requires each { length stayed.old ≡ length self.now.edit.now.after.now.preds }
-        ensures solved { OnOk result
-            (IsSolvedAt D.speaks (N.expression norm.now) self.now c solved.old solved.new) }
+        ensures solved { OnOk result (IsSolvedAt D.speaks
+            (N.expression norm.now) self.now c progress.old.solved progress.new.solved) }
         ensures marks { OnOk result (AreMarked self.now.edit.now.components.now c
-            (λ r. rows_of solved.new.sizes.rows r
-            ≡ rows_of solved.old.sizes.rows r) stayed.old stayed.new) }
+            (λ r. rows_of progress.new.solved.sizes.rows r
+            ≡ rows_of progress.old.solved.sizes.rows r) stayed.old stayed.new) }
+        ensures done { OnOk result (IsDone D.width D.listed self.now c
+            progress.new.solved.sizes.rows progress.old.state progress.new.state) }
     {
-        let components = self.edit.components;
-        let mut chain = solve_component::<D, N>(
+        let _program = self.edit.after.clauses();
+        let own = ComponentClauses {
+            program: self.edit.after,
+            comps: self.edit.components,
+            number: c,
+            clauses: self.own[c as usize].as_slice(),
+        };
+        let steps = progress.state.solve(alloc, norm, &own)?;
+        let rows = &progress.solved.sizes.rows;
+        mark_same_rows(self.edit, c, rows, &progress.state.sizes.rows, stayed);
+        let members = self.edit.components.members(c);
+        take_part(
             alloc,
-            self.edit.after,
-            components,
-            c,
-            norm,
-            &solved.sizes,
+            members,
+            own.clauses,
+            &progress.state,
+            steps,
+            &mut progress.solved,
         )?;
-        mark_same_rows(self.edit, c, &solved.sizes.rows, &chain.sizes.rows, stayed);
-        let own = self.own[c as usize].as_slice();
-        take_part(alloc, components.members(c), own, &mut chain, solved)?;
         Ok(())
     }
 
@@ -142,28 +160,28 @@ impl Sources<'_> {
         alloc: Global,
         norm: &N,
         c: u32,
-        solved: &mut SolvedSizes,
+        progress: &mut Progress<D>,
         stayed: &mut [bool],
     ) -> Result<(), AllocError>
         requires sources { AreSources self.now }
         requires old { AreSolved D.speaks (N.expression norm.now) self.now.edit.now.before.now
             self.now.edit.now.components_before.now self.now.old.now }
         requires inner { c < length self.now.edit.now.components.now.members }
-        requires solved { AreResolvedTo D.speaks
-            (N.expression norm.now) self.now c solved.old stayed.old }
-        ensures { OnOk result (AreResolvedTo D.speaks (N.expression norm.now) self.now
-            (c + 1) solved.new stayed.new) }
+        requires progress { IsProgress D.width D.listed self.now D.speaks
+            (N.expression norm.now) c progress.old stayed.old }
+        ensures { OnOk result (IsProgress D.width D.listed self.now D.speaks
+            (N.expression norm.now) (c + 1) progress.new stayed.new) }
     {
         let _before = self.edit.before.clauses();
         let _after = self.edit.after.clauses();
         match self.standing(c, stayed) {
             Some(before) => {
-                self.carry(alloc, before, c, solved)?;
+                self.carry(alloc, before, c, progress)?;
                 mark_all(self.edit, c, stayed);
                 Ok(())
             }
             None => {
-                self.solve_anew::<D, N>(alloc, norm, c, solved, stayed)?;
+                self.solve_anew::<D, N>(alloc, norm, c, progress, stayed)?;
                 Ok(())
             }
         }
@@ -174,19 +192,19 @@ impl Sources<'_> {
         &self,
         alloc: Global,
         norm: &N,
-        solved: &mut SolvedSizes,
+        progress: &mut Progress<D>,
         stayed: &mut [bool],
     ) -> Result<(), AllocError>
         requires sources { AreSources self.now }
         requires old { AreSolved D.speaks (N.expression norm.now) self.now.edit.now.before.now
             self.now.edit.now.components_before.now self.now.old.now }
-        requires begun { AreResolvedTo D.speaks
-            (N.expression norm.now) self.now 0 solved.old stayed.old }
-        ensures { OnOk result (AreResolvedTo D.speaks (N.expression norm.now) self.now
-            (length self.now.edit.now.components.now.members) solved.new stayed.new) }
+        requires begun { IsProgress D.width D.listed self.now D.speaks
+            (N.expression norm.now) 0 progress.old stayed.old }
+        ensures { OnOk result (IsProgress D.width D.listed self.now D.speaks (N.expression norm.now)
+            (length self.now.edit.now.components.now.members) progress.new stayed.new) }
     {
         for c in 0..self.edit.components.count() {
-            self.resolve::<D, N>(alloc, norm, c, solved, stayed)?;
+            self.resolve::<D, N>(alloc, norm, c, progress, stayed)?;
         }
         Ok(())
     }
@@ -207,31 +225,19 @@ impl Sources<'_> {
             (λ now. KeepValues self.now.edit.now (rows_of self.now.old.now.sizes.rows)
             (rows_of now.sizes.rows)) }
     {
-        let mut solved = carried(alloc, self.edit, self.old)?;
+        let state = State::<D>::start(alloc, self.edit.after)?;
+        let solved = carried(alloc, self.edit, self.old)?;
+        let mut progress = Progress { state, solved };
         let mut stayed = vec![in alloc; false; self.edit.after.preds() as usize]?;
-        self.resolve_each::<D, N>(alloc, norm, &mut solved, &mut stayed)?;
-        Ok(solved)
+        self.resolve_each::<D, N>(alloc, norm, &mut progress, &mut stayed)?;
+        Ok(progress.into_solved())
     }
-}
-
-/// Whether no clause is kept.
-fn keeps_none(kept: &[Option<u32>]) -> bool
-    ensures none { result ≡ true → KeepsNone kept.now }
-    ensures some { result ≡ false → KeepsNone kept.now → ⊥ }
-{
-    for k in kept {
-        if k.is_some() {
-            return false;
-        }
-    }
-    true
 }
 
 /// The size rows of a program after an edit, from those before it.
 ///
 /// A component keeps its steps, rows and proofs where its clauses are those of an old component, all of them and in
-/// their order, and the predicates that they call have the rows that they had. Each other component is solved. Where no
-/// clause is kept, as in a program that was not there before, all of them are solved in one run.
+/// their order, and the predicates that they call have the rows that they had. Each other component is solved.
 pub fn resolve_sizes<D: Domain, N: Norm>(
     alloc: Global,
     norm: &N,
@@ -249,9 +255,6 @@ pub fn resolve_sizes<D: Domain, N: Norm>(
     ensures kept { IfOk result
         (λ now. KeepValues edit.now (rows_of old.now.sizes.rows) (rows_of now.sizes.rows)) }
 {
-    if keeps_none(edit.kept) {
-        return solve_sizes::<D, N>(alloc, edit.after, edit.components, norm);
-    }
     let own_before = own_clauses(alloc, edit.before, edit.components_before)?;
     let own = own_clauses(alloc, edit.after, edit.components)?;
     let sources = Sources {

@@ -33,7 +33,7 @@ pub(crate) fn take_rows(
 pub(crate) fn take_proofs(
     alloc: Global,
     own: &[u32],
-    from: &Sequence<Sequence<Multipliers>>,
+    from: &[Sequence<Multipliers>],
     to: &mut Sequence<Sequence<Multipliers>>,
 ) -> Result<(), AllocError>
     requires own { All (λ k. (1 ≤ k) × (k ≤ length from.now)) own.now }
@@ -43,7 +43,7 @@ pub(crate) fn take_proofs(
 {
     for k in own {
         let place = *k as usize - 1;
-        let by = copied_multipliers(alloc, from.get(place).as_slice())?;
+        let by = copied_multipliers(alloc, from[place].as_slice())?;
         to.set(place, by);
     }
     Ok(())

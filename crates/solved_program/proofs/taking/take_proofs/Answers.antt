@@ -1,4 +1,4 @@
-use Rattle.std.proofs.Common.{◌≡◌, ◌≤◌, ◌+◌, ◌-◌, ◌++◌, ◌∷◌, [], ◌∙◌, ℕ, ap, arith, get_or, length, map, refl, slice_get, slice_set, Some, subst, sym, take}
+use Rattle.std.proofs.Common.{◌≡◌, ◌≤◌, ◌<◌, ◌+◌, ◌-◌, ◌++◌, ◌∷◌, [], ◌∙◌, ℕ, ap, arith, get_or, length, map, refl, slice_get, slice_set, Some, subst, sym, take}
 use Rattle.std.proofs.lemmas.List.{length-set}
 use Rattle.std.proofs.lemmas.List.Elements.{All-get_or}
 use Rattle.termination_model.proofs.Lists.{map_push, taken_more, there}
@@ -29,7 +29,8 @@ loop-k-preserved c =
     let last = lt.1 in
     let each = c.loop-k.invariant.each in
     let before = c.requires.each in
-    let by : slice_get c.args.from.now (k - 1) ≡ Some c.in_ok-by.by = c.get.ensures ∙ ap Some (sym (c.in_ok-by.ensures ∙ c.as_slice.ensures)) in
+    let lt' : k - 1 < length c.args.from.now = omega arith in
+    let by : slice_get c.args.from.now (k - 1) ≡ Some c.in_ok-by.by = there c.args.from.now (k - 1) c.index-from-place.result lt' ∙ ap Some (sym (c.in_ok-by.ensures ∙ c.as_slice.ensures ∙ c.index-from-place.is)) in
     let places : map place_of (take (n + 1) own) ≡ map place_of (take n own) ++ (k - 1) ∷ [] = ap (map place_of) (taken_more own n k at) ∙ map_push place_of (take n own) k in
     record {
       each = ap length c.set.ensures ∙ length-set c.loop-k.to (k - 1) c.in_ok-by.by ∙ each;

@@ -1,0 +1,46 @@
+-- Private.
+-- A state in which the components of a program are solved one after another.
+--
+-- To believe: `IsComponent`, `IsReady`, `KeepsOtherRows`.
+use Rattle.std.specs.Prelude.{◌≡◌, ℕ, ◌+◌, ◌<◌, ◌≤◌, ℤ, Bool, false, List, [], length}
+use Rattle.std.specs.List.{AllByRecursion}
+use Rattle.call_components.specs.Partition.{Partition, AreComponents, IsIn}
+use Rattle.cti_terms.specs.Listing.{Listing}
+use Rattle.termination_model.specs.chains.Chain.{clauses_of, component_of, start_rows}
+use Rattle.termination_model.specs.chains.Runs.{is_before}
+use Rattle.numeric_model.specs.Running.{rows_in, with_clauses}
+use Rattle.numeric_model.specs.States.{IsState, own_from}
+use Rattle.numeric_model.specs.declared.chain.Chain.{Chain}
+use Rattle.numeric_model.specs.declared.in_turn.ComponentClauses.{ComponentClauses}
+use Rattle.numeric_model.specs.declared.state.State.{State}
+use Rattle.numeric_model.specs.declared.step.Step.{Step}
+
+-- these are the clauses of a component
+pub record IsComponent (own : ComponentClauses) : Type 0 where
+  pub components : AreComponents own.program.now own.comps.now
+  pub inner : own.number < length own.comps.now.members
+  pub within : AllByRecursion (λ k. (1 ≤ k) × (k ≤ length own.program.now.clauses)) own.clauses.now
+  pub clauses_are : with_clauses own.program.now.clauses own.clauses.now ≡ clauses_of own.program.now own.comps.now own.number
+
+module _ {D : Type 0} (width : D → ℕ) (listed : D → List (List ℤ)) where
+  -- The components below c are done. Predicates of no such component have the rows of the start, and there are no steps
+  pub record IsReady (p : Listing) (comps : Partition) (c : ℕ) (s : State D) : Type 0 where
+    pub state : IsState width listed (own_from comps c) p s
+    pub others : (q : ℕ) → is_before c (component_of comps q) ≡ false → rows_in s q ≡ start_rows p q
+    pub none : s.steps ≡ []
+
+  -- a component is the next one
+  abbrev pub IsReadyFor : ComponentClauses → State D → Type 0
+  IsReadyFor own s = IsReady own.program.now own.comps.now own.number s
+
+  -- it is done
+  abbrev pub IsReadyAfter : ComponentClauses → State D → Type 0
+  IsReadyAfter own s = IsReady own.program.now own.comps.now (own.number + 1) s
+
+-- predicates that are no members of a component keep their rows
+abbrev pub KeepsOtherRows : {D : Type 0} → ComponentClauses → State D → State D → Type 0
+KeepsOtherRows own old new = (q : ℕ) → (IsIn own.comps.now own.number q → ⊥) → rows_in new q ≡ rows_in old q
+
+-- steps with the rows and the proofs of the state after them
+abbrev pub chain_of : {D : Type 0} → List Step → State D → Chain
+chain_of steps s = record { steps = steps; sizes = record { rows = s.sizes.rows; proofs = s.proofs.items } }

@@ -1,0 +1,61 @@
+//! Components one after another in one state, callees first.
+
+ghost use Rattle.std.specs.Prelude.{IfOk, OnOk};
+ghost use Rattle.numeric_model.specs.Parts.{IsPartOf};
+ghost use Rattle.numeric_model.specs.Ready.{IsComponent, IsReadyAfter, IsReadyFor, KeepsOtherRows, chain_of};
+ghost use Rattle.numeric_model.specs.Running.{rows_in};
+
+use crate::running::run_component;
+use crate::state::State;
+use crate::step::Step;
+use call_components::Components;
+use cti_terms::Program;
+use polyhedra::Domain;
+use sequences::Sequence;
+use std::alloc::{AllocError, Global};
+use std::mem;
+use term_size::Norm;
+
+/// A component of a program, with the numbers of its clauses.
+#[derive(Clone, Copy)]
+pub struct ComponentClauses<'a> {
+    pub program: &'a Program,
+    pub comps: &'a Components,
+    /// The component.
+    pub number: u32,
+    /// The numbers of its clauses, in order.
+    pub clauses: &'a [u32],
+}
+
+impl<D: Domain> State<D> {
+    /// Takes the steps of a component above the rows of earlier ones, and proves the rows that they end with.
+    ///
+    /// It takes the time of the component, and not that of the program.
+    pub fn solve<N: Norm>(
+        &mut self,
+        alloc: Global,
+        norm: &N,
+        own: &ComponentClauses<'_>,
+    ) -> Result<Sequence<Step>, AllocError>
+        requires component { IsComponent own.now }
+        requires ready { IsReadyFor D.width D.listed own.now self.old }
+        ensures ready { OnOk result (IsReadyAfter D.width D.listed own.now self.new) }
+        ensures part { IfOk result
+            (λ steps. IsPartOf D.speaks (N.expression norm.now) own.now.program.now own.now.comps.now own.now.number
+            (rows_in self.old) (chain_of steps self.new)) }
+        ensures others { OnOk result (KeepsOtherRows own.now self.old self.new) }
+    {
+        let _program = own.program.clauses();
+        run_component(
+            alloc,
+            own.program,
+            own.comps,
+            own.number,
+            norm,
+            own.clauses,
+            self,
+        )?;
+        self.latest.forget(own.comps.members(own.number));
+        Ok(mem::replace(&mut self.steps, Sequence::new(alloc)))
+    }
+}
