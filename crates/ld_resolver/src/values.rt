@@ -18,6 +18,10 @@ use unifier::bindings::Bindings;
 use unifier::occurs_check::push_arguments;
 use unifier::raised_term::{RaisedTerm, Shape};
 
+/// The most operators and numbers of an expression that is evaluated, which take 128 MB. Variables may share subterms, so
+/// that a short text stands for any number of them. With more, it is out of memory.
+const MOST_OPERATORS: usize = 4_000_000;
+
 /// The value of a term: it has none, or it or a subterm has one that does not fit, or it is a number.
 #[derive(Clone, Copy, Drop)]
 pub enum Value {
@@ -73,7 +77,8 @@ fn calculate(
     Ok(Some(last(values)))
 }
 
-/// Lists the operators of a term under the bindings, root first. Whether it has a value.
+/// Lists the operators of a term under the bindings, root first. Whether it has a value. Out of memory at more than
+/// `MOST_OPERATORS` of them.
 fn list_operators<'p>(
     bindings: &Bindings<'p>,
     names: Option<Arith>,
@@ -91,6 +96,9 @@ fn list_operators<'p>(
         let met = bindings.met(next);
         match split(names, met.shape) {
             Some((operator, operands)) => {
+                if operators.len() == MOST_OPERATORS {
+                    return Err(AllocError);
+                }
                 operators.push(operator)?;
                 push_arguments(stack, operands, met.term.base)?;
             }

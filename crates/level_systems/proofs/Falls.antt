@@ -1,7 +1,7 @@
 -- The falls that the code finds are falls of the mapping at the pairs of its component.
-use Rattle.std.proofs.Common.{◌≡◌, ℕ, zero, suc, ◌+◌, ◌-◌, ℤ, pos, Bool, true, if◌then◌else◌, List, [], ◌∷◌, ◌++◌, map, take, length, slice_get, Option, None, Some, inl, inr, refl, ap, sym, subst, ◌∙◌, arith}
+use Rattle.std.proofs.Common.{◌≡◌, ℕ, ◌-◌, ℤ, pos, Bool, true, if◌then◌else◌, List, [], ◌∷◌, map, take, length, slice_get, Some, inl, inr, refl, ap, sym, subst, ◌∙◌}
 use Rattle.std.specs.List.{AllByRecursion}
-use Rattle.std.proofs.lemmas.List.{length-append, length-map}
+use Rattle.std.proofs.lemmas.List.{length-map}
 use Rattle.cti_terms.specs.Listing.{Listing}
 use Rattle.cti_terms.specs.Tree.{Tree}
 use Rattle.cti_terms.specs.declared.atom_list.Atom.{Atom}
@@ -16,7 +16,7 @@ use Rattle.number_tests.specs.Targets.{fall_weights}
 use Rattle.number_tests.specs.declared.level_part.LevelPart.{LevelPart}
 use Rattle.number_tests.proofs.FallTargets.{fall_target}
 use Rattle.term_size.specs.Norm.{IsNorm}
-use Rattle.termination_model.specs.sizes.Systems.{row_over, system}
+use Rattle.termination_model.specs.sizes.Systems.{system}
 use Rattle.termination_model.specs.sizes.ShortSystems.{short_row, short_system}
 use Rattle.termination_model.proofs.Lists.{one_element}
 use Rattle.level_systems.specs.Falling.{AreFallsOf, ShowFalls, ShowsFall, values_after}

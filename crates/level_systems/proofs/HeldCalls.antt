@@ -1,12 +1,11 @@
 -- Held calls are calls of the view, and those that can be reached are its live ones.
-use Rattle.std.proofs.Common.{◌≡◌, ℕ, zero, suc, ◌+◌, ◌-◌, ◌≤◌, ℤ, pos, Bool, List, [], ◌∷◌, map, take, length, Option, None, Some, ◌⊎◌, inl, inr, refl, ap, sym, subst, ◌∙◌, arith}
+use Rattle.std.proofs.Common.{◌≡◌, ℕ, zero, suc, ◌-◌, ℤ, pos, List, [], ◌∷◌, map, take, length, Option, None, Some, ◌⊎◌, inl, inr, refl, ap, sym, subst, ◌∙◌}
 use Rattle.std.specs.List.{AllByRecursion}
-use Rattle.std.proofs.lemmas.List.{length-map}
 use Rattle.cti_terms.specs.Listing.{IsProgram, Listing}
 use Rattle.cti_terms.specs.Tree.{Tree}
 use Rattle.call_components.specs.Partition.{Partition}
 use Rattle.linear_rows.specs.Members.{In}
-use Rattle.linear_rows.specs.Plain.{plain_row, plain_rows}
+use Rattle.linear_rows.specs.Plain.{plain_rows}
 use Rattle.linear_rows.specs.Proves.{Proves}
 use Rattle.linear_rows.specs.Rows.{AreEmpty}
 use Rattle.linear_rows.specs.Showing.{Shows, bottom_row}
@@ -19,12 +18,11 @@ use Rattle.termination_model.specs.mappings.OwnCalls.{OwnCall as Recalled, own_c
 use Rattle.termination_model.specs.mappings.Ready.{arity_in, itself}
 use Rattle.termination_model.specs.mappings.SupportLaws.{HasFew}
 use Rattle.termination_model.specs.mappings.Supports.{AreLives}
-use Rattle.termination_model.specs.sizes.Systems.{system}
 use Rattle.termination_model.specs.mappings.View as view
 use Rattle.termination_model.proofs.Readiness.{views_are_ready, views_have_few}
 use Rattle.level_systems.specs.Held.{HasPoint, IsHeld, IsReach, live_of, numbers_of_call, recalled_at, with_live}
-use Rattle.level_systems.specs.Pairs.{call_at, clause_at, pairs_of}
-use Rattle.level_systems.specs.Recalled.{Recalls, count_of, with_count}
+use Rattle.level_systems.specs.Pairs.{clause_at, pairs_of}
+use Rattle.level_systems.specs.Recalled.{Recalls}
 use Rattle.level_systems.specs.declared.own_call.OwnCall.{OwnCall}
 use Rattle.level_systems.proofs.ViewCalls.{calls_are_pairs, system_same, take_map}
 

@@ -1,7 +1,7 @@
 -- A call that the code has collected is held.
-use Rattle.std.proofs.Common.{◌≡◌, ℕ, zero, suc, ◌+◌, ◌-◌, ◌<◌, ◌≤◌, ◌≤ℤ◌, ◌||◌, not, ℤ, pos, Bool, true, false, IsTrue, List, [], ◌∷◌, map, take, drop, length, slice_get, slice_index_or, Some, inl, inr, refl, ap, sym, subst, ◌∙◌, arith}
+use Rattle.std.proofs.Common.{◌≡◌, ℕ, zero, suc, ◌-◌, ◌<◌, ◌≤ℤ◌, ◌||◌, not, ℤ, pos, Bool, true, false, IsTrue, List, [], ◌∷◌, map, take, drop, length, slice_get, slice_index_or, Some, inl, inr, refl, ap, sym, subst, ◌∙◌, arith}
 use Rattle.std.specs.Prelude.{All}
-use Rattle.std.specs.List.{AllByRecursion, list_any}
+use Rattle.std.specs.List.{AllByRecursion}
 use Rattle.exact128.specs.Sums.{entry}
 use Rattle.cti_terms.specs.Listing.{Listing}
 use Rattle.cti_terms.specs.Tree.{Tree, is_below}
@@ -10,11 +10,10 @@ use Rattle.cti_terms.specs.declared.clauses.Clause.{Clause}
 use Rattle.linear_rows.specs.Irredundant.{TestIsBlown}
 use Rattle.linear_rows.specs.Members.{In}
 use Rattle.linear_rows.specs.Showing.{bottom_row}
-use Rattle.linear_rows.specs.Plain.{HaveWidth, plain_row, plain_rows}
+use Rattle.linear_rows.specs.Plain.{plain_row, plain_rows}
 use Rattle.linear_rows.specs.declared.row.Row.{Row}
 use Rattle.linear_rows.specs.declared.row.Rows.{Rows}
 use Rattle.number_tests.specs.Refuting.{atom_or_none, clause_or_none}
-use Rattle.number_tests.specs.Targets.{AreFallColumns}
 use Rattle.term_size.specs.Norm.{IsNorm}
 use Rattle.termination_model.specs.sizes.Sizes.{wide_rows}
 use Rattle.termination_model.specs.sizes.Systems.{row_fits, system}

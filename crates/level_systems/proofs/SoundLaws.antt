@@ -1,5 +1,5 @@
 -- A collected component is sound: its members are apart, and its calls can be tested.
-use Rattle.std.proofs.Common.{◌≡◌, ℕ, zero, suc, ◌+◌, ◌-◌, ◌<◌, ◌≤◌, ◌==◌, ◌&&◌, ◌||◌, ℤ, pos, Bool, true, false, if◌then◌else◌, List, [], ◌∷◌, ◌++◌, map, filter, length, slice_get, slice_index_or, Contains, Option, None, Some, inl, inr, ◌⊎◌, refl, ap, sym, subst, ◌∙◌, arith, eq-eqb}
+use Rattle.std.proofs.Common.{◌≡◌, ℕ, zero, suc, ◌+◌, ◌-◌, ◌<◌, ◌==◌, ◌&&◌, ◌||◌, ℤ, Bool, true, false, if◌then◌else◌, List, [], ◌∷◌, ◌++◌, map, filter, length, slice_get, Contains, Option, None, Some, inl, inr, refl, ap, sym, subst, ◌∙◌, arith, eq-eqb}
 use Rattle.std.specs.Prelude.{All, IfSome, IsSomeAnd, option_map, unwrap_or}
 use Rattle.std.specs.List.{AllByRecursion, list_any}
 use Rattle.std.proofs.lemmas.List.{length-map}
@@ -7,10 +7,8 @@ use Rattle.exact128.specs.Fits.{fits}
 use Rattle.exact128.specs.Sums.{entry}
 use Rattle.cti_terms.specs.Listing.{IsAtom, IsClause, IsProgram, Listing}
 use Rattle.cti_terms.specs.Tree.{Tree}
-use Rattle.cti_terms.specs.declared.atom_list.Atom.{Atom}
 use Rattle.cti_terms.specs.declared.clauses.Clause.{Clause}
 use Rattle.cti_terms.specs.declared.predicates.Pred.{Pred}
-use Rattle.call_components.specs.Numbers.{number_of}
 use Rattle.call_components.specs.Partition.{AreComponents, IsIn, Partition}
 use Rattle.call_components.proofs.Lists.{all_append, contains_has, has_contains}
 use Rattle.call_components.specs.Table.{Has}
@@ -29,13 +27,11 @@ use Rattle.termination_model.proofs.Lists.{by_places, indexed, place_below}
 use Rattle.number_tests.proofs.Sized.{some_below}
 use Rattle.level_systems.proofs.HeldCalls.{all_in}
 use Rattle.termination_model.proofs.Readiness.{at_of}
-use Rattle.linear_rows.proofs.Members.{in-left, in-right, of-append}
+use Rattle.linear_rows.proofs.Members.{of-append}
 use Rattle.level_systems.specs.Collected.{IsHeldIn}
-use Rattle.level_systems.specs.Falling.{IsReady}
-use Rattle.level_systems.specs.Held.{IsHeld, IsReach}
+use Rattle.level_systems.specs.Held.{IsReach}
 use Rattle.level_systems.specs.Ordered.{members_by_clauses, with_member}
 use Rattle.level_systems.specs.Pairs.{call_at, clause_at}
-use Rattle.level_systems.specs.Recalled.{HasNumbers}
 use Rattle.level_systems.specs.Searched.{IsSoundCall}
 use Rattle.level_systems.specs.declared.own_call.OwnCall.{OwnCall}
 

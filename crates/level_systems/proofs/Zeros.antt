@@ -1,5 +1,5 @@
 -- Zeros, one by one.
-use Rattle.std.proofs.Common.{◌≡◌, ℕ, zero, suc, ◌+◌, ℤ, pos, List, [], ◌∷◌, ◌++◌, refl, ap, sym, ◌∙◌, arith}
+use Rattle.std.proofs.Common.{◌≡◌, ℕ, zero, suc, ◌+◌, pos, [], ◌∷◌, ◌++◌, refl, ap, ◌∙◌, arith}
 use Rattle.linear_rows.specs.Solving.{zeros}
 
 push_zero : (n : ℕ) → zeros n ++ pos 0 ∷ [] ≡ zeros (suc n)

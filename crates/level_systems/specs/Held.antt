@@ -1,7 +1,6 @@
 -- Private.
 -- What the code holds of a component's calls. Nothing here has to be believed.
 use Rattle.std.specs.Prelude.{◌≡◌, ◌<◌, ◌≤◌, ◌≤ℤ◌, ◌-ℤ◌, ◌-◌, ◌++◌, ◌⊎◌, ℕ, suc, ℤ, pos, neg_ℤ, true, false, List, [], ◌∷◌, map, take, length, slice_get, All, Option, None, Some}
-use Rattle.std.specs.List.{AllByRecursion}
 use Rattle.exact128.specs.Sums.{entry}
 use Rattle.cti_terms.specs.Listing.{Listing}
 use Rattle.cti_terms.specs.Tree.{Tree}

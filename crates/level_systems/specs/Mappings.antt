@@ -15,7 +15,7 @@ use Rattle.number_tests.specs.Shape.{IsLevelPart, row_count}
 pub use Rattle.number_tests.specs.Levels.{natural_coefficients, natural_offset}
 use Rattle.number_tests.specs.declared.level_part.LevelPart.{LevelPart}
 use Rattle.termination_model.specs.claims.Claims.{Mapping as PlainMapping}
-use Rattle.termination_model.specs.mappings.ComponentViews.{members_in, positions_in}
+use Rattle.termination_model.specs.mappings.ComponentViews.{members_in}
 use Rattle.termination_model.specs.mappings.OwnCalls.{Position}
 use Rattle.termination_model.specs.mappings.Ready.{arity_in}
 use Rattle.termination_model.specs.mappings.Supports.{support_from}

@@ -25,23 +25,12 @@ pub enum Reach {
     Blown,
 }
 
-/// The row of constant -1 and coefficients 0.
-fn bottom(alloc: Global, width: u32) -> Result<Row, AllocError>
-    ensures { IfOk result (λ r. plain_row r ≡ bottom_row width) }
-{
-    let coeffs = Numbers::from_vec(vec![in alloc; 0; width as usize]?);
-    Ok(Row {
-        constant: -1,
-        coeffs,
-    })
-}
-
 /// Tests whether rows are empty.
 pub fn emptiness(alloc: Global, rows: &Rows) -> Result<Reach, AllocError>
     requires { HaveWidth rows.now.width rows.now.list }
     ensures { IfOk result (IsEmptiness rows.now.width (plain_rows rows.now.list)) }
 {
-    let row = bottom(alloc, rows.width)?;
+    let row = Row::bottom(alloc, rows.width)?;
     match &holds(alloc, rows, &row)? {
         Held::Yes(by) => Ok(Reach::Empty(Multipliers {
             scale: 0,
@@ -57,7 +46,7 @@ fn point_by_pivots(alloc: Global, rows: &Rows) -> Result<Option<Point>, AllocErr
     requires { HaveWidth rows.now.width rows.now.list }
     ensures { IfOk result (λ o. IfSome o (λ point. length point.w ≡ rows.now.width)) }
 {
-    let row = bottom(alloc, rows.width)?;
+    let row = Row::bottom(alloc, rows.width)?;
     match &holds(alloc, rows, &row)? {
         Held::No(point) => Ok(Some(Point {
             t: point.t,

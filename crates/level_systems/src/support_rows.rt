@@ -21,6 +21,19 @@ use cti_terms::PredId;
 use linear_rows::{Numbers, Row, Rows};
 use std::alloc::{AllocError, Global};
 
+/// The most numbers in the rows of a system, which take 512 MB in each of the tables that a search makes of them. A system
+/// with more is out of memory.
+const MOST_NUMBERS: usize = 1 << 25;
+
+/// Whether a system has room for so many more rows. Without room, it is out of memory.
+pub(crate) fn check_room(system: &Rows, more: usize) -> Result<(), AllocError> {
+    let rows = system.list.len().saturating_add(more);
+    if rows.saturating_mul(system.width as usize) > MOST_NUMBERS {
+        return Err(AllocError);
+    }
+    Ok(())
+}
+
 /// The number of a row in a column.
 fn number(row: &Row, x: usize) -> i128
     requires { x < length (plain_row row.now) }
@@ -214,7 +227,9 @@ fn add_call(
         → plain_rows system.new.list ≡ plain_rows system.old.list ++ call_rows expression
         (map spelled positions.now) (map number_of members.now) before after o) }
 {
-    for x in 0..own.rows.width as usize + 1 {
+    let columns = own.rows.width as usize + 1;
+    check_room(system, columns)?;
+    for x in 0..columns {
         system.push(call_row(alloc, own, positions, members, before, after, x)?)?;
     }
     Ok(())
@@ -254,7 +269,7 @@ pub(crate) fn width_of(positions: usize, members: usize, count: usize) -> Result
 }
 
 /// The system of a support: what coefficients at these positions, offsets of these members and multipliers have to obey
-/// so that the mapping falls at each call that can be reached.
+/// so that the mapping falls at each call that can be reached. It is out of memory with more than `MOST_NUMBERS` numbers.
 pub fn support_system(
     alloc: Global,
     calls: &[OwnCall],

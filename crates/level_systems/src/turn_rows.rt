@@ -19,7 +19,7 @@ ghost use Rattle.termination_model.specs.lists.TurnSystem.{call_turn_rows, drop_
 use crate::own_call::OwnCall;
 use crate::position::Position;
 use crate::support_rows::{
-    add_multipliers, add_offsets, add_positions, add_zeros, less_one, width_of,
+    add_multipliers, add_offsets, add_positions, add_zeros, check_room, less_one, width_of,
 };
 use cti_terms::PredId;
 use linear_rows::{Numbers, Row, Rows};
@@ -101,7 +101,9 @@ impl Unknowns<'_> {
             (map spelled self.now.positions.now) (map number_of self.now.members.now) self.now.earlier
             self.now.later self.now.before self.now.after o) }
     {
-        for x in 0..own.rows.width as usize + 1 {
+        let columns = own.rows.width as usize + 1;
+        check_room(system, columns)?;
+        for x in 0..columns {
             let row = self.turn_row(alloc, own, x)?;
             system.push(row)?;
         }

@@ -1,4 +1,4 @@
-use Rattle.std.proofs.Common.{◌≡◌, ◌-◌, ◌<◌, ◌≤◌, ◌++◌, ℕ, ℤ, false, true, IsTrue, List, length, map, slice_get, take, Option, None, Some, refl, ap, sym, subst, ◌∙◌, arith}
+use Rattle.std.proofs.Common.{◌≡◌, ◌-◌, ◌++◌, ℕ, ℤ, false, IsTrue, List, length, map, slice_get, take, Option, Some, refl, ap, sym, subst, ◌∙◌, arith}
 use Rattle.std.specs.List.{AllByRecursion}
 use Rattle.cti_terms.specs.Listing.{IsAtom}
 use Rattle.cti_terms.specs.Tree.{is_below}
@@ -9,7 +9,6 @@ use Rattle.linear_rows.specs.Members.{In}
 use Rattle.linear_rows.specs.Plain.{HaveWidth, plain_rows}
 use Rattle.linear_rows.specs.Showing.{bottom_row}
 use Rattle.linear_rows.specs.declared.row.Row.{Row}
-use Rattle.linear_rows.specs.declared.row.Rows.{Rows}
 use Rattle.linear_rows.specs.declared.multipliers.Multipliers.{Multipliers}
 use Rattle.number_tests.specs.Targets.{AreFallColumns}
 use Rattle.termination_model.specs.sizes.Sizes.{rows_of, wide_rows}

@@ -1,4 +1,4 @@
-use Rattle.std.proofs.Common.{◌≡◌, ◌<◌, ℕ, List, [], length, map, slice_get, IfSome, Option, Some, ap, sym, subst, ◌∙◌}
+use Rattle.std.proofs.Common.{◌≡◌, ◌<◌, ℕ, List, [], length, map, slice_get, IfSome, Some, ap, sym, subst, ◌∙◌}
 use Rattle.std.specs.List.{AllByRecursion}
 use Rattle.call_components.specs.Numbers.{number_of}
 use Rattle.call_components.specs.Partition.{IsIn}
@@ -12,7 +12,6 @@ use Rattle.termination_model.proofs.Lists.{indexed}
 use Rattle.termination_model.proofs.Readiness.{positions_are_distinct}
 use Rattle.level_systems.specs.Collected.{IsHeldIn}
 use Rattle.level_systems.specs.Held.{IsHeld, numbers_of_call, spelled}
-use Rattle.level_systems.specs.Ordered.{members_by_clauses}
 use Rattle.level_systems.specs.Pairs.{pairs_of}
 use Rattle.level_systems.specs.Searched.{IsSoundCall}
 use Rattle.level_systems.specs.declared.own_call.OwnCall.{OwnCall}

@@ -1,4 +1,4 @@
-use Rattle.std.proofs.Common.{◌≡◌, ◌+◌, ◌-◌, ◌++◌, ◌∷◌, [], map, ap, sym, ◌∙◌, arith}
+use Rattle.std.proofs.Common.{◌+◌, ◌-◌, ◌++◌, map, ap, ◌∙◌}
 use Rattle.termination_model.proofs.Lists.{map_push}
 use Rattle.level_systems.specs.Held.{spelled}
 use Rattle.level_systems.specs.Ordered.{arguments_from}

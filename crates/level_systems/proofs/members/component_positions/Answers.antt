@@ -1,4 +1,4 @@
-use Rattle.std.proofs.Common.{◌≡◌, ℕ, List, [], map, slice_get, Some, ap, sym, ◌∙◌}
+use Rattle.std.proofs.Common.{[], map, ap, sym, ◌∙◌}
 use Rattle.call_components.specs.Numbers.{number_of}
 use Rattle.termination_model.specs.mappings.Ready.{arity_in, positions_by}
 use Rattle.termination_model.proofs.Lists.{indexed}

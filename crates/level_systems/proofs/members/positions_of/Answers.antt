@@ -1,4 +1,4 @@
-use Rattle.std.proofs.Common.{◌≡◌, ◌<◌, ◌+◌, ◌++◌, ◌∷◌, ℕ, List, drop, get_or, length, map, slice_get, Some, ap, sym, subst, ◌∙◌, arith}
+use Rattle.std.proofs.Common.{◌≡◌, ◌<◌, ◌+◌, ◌++◌, ℕ, List, drop, get_or, length, map, slice_get, Some, ap, sym, ◌∙◌}
 use Rattle.call_components.specs.Numbers.{number_of}
 use Rattle.cti_terms.specs.declared.predicates.PredId.{PredId}
 use Rattle.termination_model.specs.mappings.OwnCalls.{Position as Place}

@@ -1,4 +1,4 @@
-use Rattle.std.proofs.Common.{◌≡◌, ◌+◌, ◌++◌, ◌∷◌, [], ℕ, Bool, true, false, if◌then◌else◌, List, drop, filter, get_or, map, slice_get, Some, ap, sym, subst, ◌∙◌}
+use Rattle.std.proofs.Common.{◌≡◌, ◌+◌, ◌++◌, ◌∷◌, [], true, false, if◌then◌else◌, List, drop, filter, get_or, map, slice_get, Some, ap, sym, ◌∙◌}
 use Rattle.std.specs.List.{list_any}
 use Rattle.termination_model.specs.mappings.BlownSupports.{same_position}
 use Rattle.termination_model.specs.mappings.OwnCalls.{Position as Place}

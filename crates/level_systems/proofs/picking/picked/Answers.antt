@@ -1,4 +1,4 @@
-use Rattle.std.proofs.Common.{◌≡◌, ◌+◌, ◌++◌, ◌∷◌, [], ℕ, suc, Bool, true, false, if◌then◌else◌, List, drop, get_or, map, nat_eq, slice_get, Some, ap, sym, subst, ◌∙◌, arith}
+use Rattle.std.proofs.Common.{◌≡◌, ◌+◌, ◌++◌, ◌∷◌, [], ℕ, suc, true, false, if◌then◌else◌, List, drop, get_or, map, nat_eq, slice_get, Some, ap, sym, ◌∙◌, arith}
 use Rattle.std.specs.List.{list_any}
 use Rattle.termination_model.specs.mappings.OwnCalls.{Position as Place}
 use Rattle.termination_model.specs.mappings.Supports.{picked_from}

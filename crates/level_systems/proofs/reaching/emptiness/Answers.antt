@@ -1,10 +1,7 @@
-use Rattle.std.proofs.Common.{◌≡◌, ℕ, zero, suc, ◌≤◌, ◌<◌, ℤ, pos, negsuc, List, length, ap, sym, subst, ◌∙◌, arith, refl}
-use Rattle.linear_rows.specs.Plain.{plain_row, plain_rows}
+use Rattle.std.proofs.Common.{ℤ, List, length, ap, subst, refl}
+use Rattle.linear_rows.specs.Plain.{plain_rows}
 use Rattle.linear_rows.specs.Showing.{Shows, bottom_row}
-use Rattle.linear_rows.specs.declared.multipliers.Multipliers.{Multipliers}
 use Rattle.simplex.specs.Telling.{Tells}
-use Rattle.simplex.specs.declared.held.Held.{Held}
-use Rattle.simplex.specs.declared.held.Held.TheVariants.{Yes, No, Blown}
 use Rattle.level_systems.proofs.Bottoms.{length_bottom, shown_at_zero}
 use Rattle.level_systems.proofs.reaching.emptiness.Goals as goal
 

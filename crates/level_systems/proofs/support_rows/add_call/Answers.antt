@@ -1,8 +1,7 @@
-use Rattle.std.proofs.Common.{◌≡◌, ◌<◌, ◌≤ℤ◌, ◌+◌, ◌++◌, ℕ, suc, ℤ, pos, List, [], ◌∷◌, map, length, ap, sym, subst, ◌∙◌, arith}
+use Rattle.std.proofs.Common.{◌≡◌, ◌++◌, suc, [], ◌∷◌, map, length, ap, sym, ◌∙◌, arith}
 use Rattle.call_components.specs.Numbers.{number_of}
 use Rattle.linear_rows.specs.Plain.{plain_row, plain_rows}
 use Rattle.linear_rows.specs.Step.{columns}
-use Rattle.termination_model.specs.mappings.OwnCalls.{OwnCall as Recalled}
 use Rattle.termination_model.specs.mappings.SupportSystem.{call_row}
 use Rattle.termination_model.proofs.Lists.{append_assoc, map_push}
 use Rattle.level_systems.specs.Held.{held_numbers, spelled}

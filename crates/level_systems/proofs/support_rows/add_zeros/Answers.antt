@@ -1,4 +1,4 @@
-use Rattle.std.proofs.Common.{◌≡◌, ◌++◌, ◌∷◌, [], ℕ, pos, ◌+◌, ap, sym, ◌∙◌, arith}
+use Rattle.std.proofs.Common.{◌++◌, ◌∷◌, [], pos, ap, ◌∙◌}
 use Rattle.linear_rows.specs.Solving.{zeros}
 use Rattle.level_systems.proofs.Zeros.{zeros_more}
 use Rattle.termination_model.proofs.Lists.{append_assoc}

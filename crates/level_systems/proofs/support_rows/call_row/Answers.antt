@@ -1,4 +1,4 @@
-use Rattle.std.proofs.Common.{rules, ◌≡◌, ◌∷◌, ℤ, FitsSigned, ◌∙◌}
+use Rattle.std.proofs.Common.{rules, ◌∷◌, FitsSigned, ◌∙◌}
 use Rattle.std.specs.Int.{w128}
 use Rattle.std.proofs.lemmas.Int.{to_z-of_z}
 use Rattle.level_systems.proofs.support_rows.call_row.Goals as goal

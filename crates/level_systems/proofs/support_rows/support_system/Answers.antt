@@ -1,9 +1,6 @@
-use Rattle.std.proofs.Common.{rules, ◌≡◌, ◌+◌, ◌-◌, ◌++◌, ◌∷◌, ℕ, ℤ, List, drop, length, map, slice_get, None, Some, ap, sym, subst, ◌∙◌, arith}
-use Rattle.std.specs.List.{AllByRecursion}
+use Rattle.std.proofs.Common.{rules, ◌≡◌, ◌+◌, ◌-◌, ◌++◌, ◌∷◌, List, drop, length, map, slice_get, None, Some, ap, sym, ◌∙◌, arith}
 use Rattle.call_components.specs.Numbers.{number_of}
-use Rattle.cti_terms.specs.Tree.{Tree}
 use Rattle.linear_rows.specs.Plain.{plain_rows}
-use Rattle.termination_model.specs.mappings.OwnCalls.{OwnCall as Recalled}
 use Rattle.termination_model.specs.mappings.SupportSystem.{rows_from}
 use Rattle.termination_model.proofs.Lists.{at_place, by_places}
 use Rattle.level_systems.specs.Held.{live_of, spelled}

@@ -1,4 +1,4 @@
-use Rattle.std.proofs.Common.{◌≡◌, ◌++◌, ◌∷◌, [], ℕ, pos, ◌+◌, ap, sym, ◌∙◌, arith}
+use Rattle.std.proofs.Common.{◌++◌, ◌∷◌, [], pos, ap, ◌∙◌}
 use Rattle.termination_model.specs.lists.TurnSystem.{ones}
 use Rattle.level_systems.proofs.TurnSteps.{ones_more}
 use Rattle.termination_model.proofs.Lists.{append_assoc}

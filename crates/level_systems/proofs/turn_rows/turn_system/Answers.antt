@@ -1,10 +1,8 @@
-use Rattle.std.proofs.Common.{rules, ◌≡◌, ◌+◌, ◌-◌, ◌++◌, ◌∷◌, [], ℕ, suc, ℤ, List, drop, length, map, slice_get, Some, ap, sym, subst, ◌∙◌, arith}
+use Rattle.std.proofs.Common.{◌≡◌, ◌+◌, ◌-◌, ◌++◌, ◌∷◌, [], suc, List, drop, length, map, slice_get, Some, ap, sym, ◌∙◌, arith}
 use Rattle.std.specs.Borrow.{Bor}
-use Rattle.std.specs.List.{AllByRecursion}
 use Rattle.std.proofs.lemmas.List.{append-nil, length-drop, length-map}
 use Rattle.call_components.specs.Numbers.{number_of}
 use Rattle.linear_rows.specs.Plain.{plain_row, plain_rows}
-use Rattle.termination_model.specs.mappings.OwnCalls.{OwnCall as Recalled}
 use Rattle.termination_model.specs.lists.TurnSystem.{sum_row, turn_rows_from}
 use Rattle.termination_model.proofs.Lists.{at_place, by_places, map_push}
 use Rattle.level_systems.specs.Held.{spelled}

@@ -1,4 +1,4 @@
-use Rattle.std.proofs.Common.{rules, ◌≡◌, ◌<◌, ◌≤◌, ◌+◌, ◌-◌, ℕ, ℤ, pos, List, drop, get_or, length, slice_get, slice_index_or, take, Some, ap, sym, subst, ◌∙◌, arith, below_more, FitsSigned}
+use Rattle.std.proofs.Common.{rules, ◌≡◌, ◌-◌, ℕ, ℤ, pos, List, drop, get_or, length, slice_get, slice_index_or, take, Some, ap, ◌∙◌, arith, below_more, FitsSigned}
 use Rattle.std.specs.Int.{w128}
 use Rattle.std.proofs.lemmas.Int.{to_z-of_z}
 use Rattle.exact128.specs.Sums.{entry}

@@ -1,4 +1,4 @@
-use Rattle.std.proofs.Common.{rules, ◌≡◌, ◌<◌, ◌+◌, ℕ, List, get_or, slice_get, Some, ap, sym, subst, ◌∙◌, arith, below_more, FitsSigned}
+use Rattle.std.proofs.Common.{rules, ◌≡◌, ℕ, get_or, slice_get, Some, ap, ◌∙◌, arith, below_more, FitsSigned}
 use Rattle.std.specs.Int.{w128}
 use Rattle.std.proofs.lemmas.Int.{to_z-of_z}
 use Rattle.termination_model.proofs.Lists.{one_element, there}
