@@ -1,6 +1,7 @@
 #!/usr/bin/env bash
 # Times `cti loop` where it looks at many derivations, or copies much, outside the gate: 100,000 of a ring of arguments that grow, 100,000 of a transitive
-# closure of a graph in twelve layers, the 556 ways to append lists to a list, and goals with an atom of 20,001 arguments' worth of terms.
+# closure of a graph in twelve layers, the 556 ways to append lists to a list, goals with an atom of 20,001 arguments' worth of terms, and
+# 100,000 derivations of a program of 16,000 clauses, each of which it tries; the last of them as far as the search goes.
 # Usage: bench/loop.sh [PROGRAM]     (PROGRAM is bin/cti where none is named)
 set -eu
 cd "$(dirname "$0")/.."
@@ -20,7 +21,10 @@ closure = "tc(X,Y) :- e(X,Y).\ntc(X,Y) :- e(X,Z), tc(Z,Y).\n" + edges
 append = "app([],L,L).\napp([H|T],L,[H|R]) :- app(T,L,R).\n"
 parts = append + "parts(L) :- app(A,B,L), app(C,D,A), app(E,F,B), app(G,H,C), app(I,J,D).\n"
 wide = "p(X) :- p(f(X)).\np(X) :- p(g(X)).\np(X) :- p(h(X)).\n"
-for name, text in [("ring", ring), ("closure", closure), ("append", parts), ("wide", wide)]:
+facts = "b(0).\nb(1).\nb(2).\n" + "".join(f"c({k}).\n" for k in range(16000))
+clauses = "r :- " + ", ".join(f"b(X{k})" for k in range(12)) + ".\n" + facts
+tried = "r :- " + ", ".join(f"b(X{k})" for k in range(9)) + ", c(none).\n" + facts
+for name, text in [("ring", ring), ("closure", closure), ("append", parts), ("wide", wide), ("clauses", clauses), ("tried", tried)]:
     (folder / f"{name}.pl").write_text(text)
 elements = ",".join(f"e{k}" for k in range(9))
 (folder / "append.query").write_text(f"parts([{elements}])")
@@ -32,3 +36,5 @@ timed ring 'p(a,b,c)'
 timed closure 'tc(X,Y)'
 timed append "$(cat "$folder/append.query")"
 timed wide "$(cat "$folder/wide.query")"
+timed clauses r
+timed tried r

@@ -1,13 +1,15 @@
 //! How much may still be copied and compared.
 
-use crate::limits::{MOST_GOAL_NODES, MOST_WORK, take_one};
+use crate::limits::{MOST_GOAL_NODES, MOST_TRIES, MOST_WORK, take_one};
 use std::alloc::AllocError;
 
-/// How many nodes of terms a search may still go over, and how many of them the goal may have that is being made.
+/// How many nodes of terms a search may still go over, how many of them the goal may have that is being made, and how
+/// many clauses it may still try.
 #[derive(Drop)]
 pub struct Room {
     search: u64,
     goal: u64,
+    tries: u64,
 }
 
 impl Room {
@@ -16,6 +18,7 @@ impl Room {
         Room {
             search: MOST_WORK,
             goal: 0,
+            tries: MOST_TRIES,
         }
     }
 
@@ -30,7 +33,13 @@ impl Room {
         take_one(&mut self.search)
     }
 
-    /// Takes one node of terms that are compared. Where there is no room for it, it is out of memory.
+    /// Takes one clause that is tried. Where there is no room for it, it is out of memory.
+    pub fn try_one(&mut self) -> Result<(), AllocError> {
+        take_one(&mut self.tries)
+    }
+
+    /// Takes one node of terms that are compared, or one head that is unified. Where there is no room for it, it is out
+    /// of memory.
     pub fn compare_one(&mut self) -> Result<(), AllocError> {
         take_one(&mut self.search)
     }
