@@ -17,17 +17,15 @@ enum Mode {
     SecondQuote,
     /// What follows a backslash there.
     Escape,
+    /// The digits of an escape there, up to its second backslash.
+    CharacterDigits,
+    /// The same in an item in quotes of this kind.
+    Digits(u8),
 }
 
-impl Mode {
-    /// What follows the first byte of the character of `0'`.
-    fn after_character(byte: u8) -> Mode {
-        match byte {
-            b'\'' => Mode::SecondQuote,
-            b'\\' => Mode::Escape,
-            _ => Mode::Code,
-        }
-    }
+/// Whether an escape that begins with this byte has digits, which end at a second backslash.
+fn begins_digits(byte: u8) -> bool {
+    matches!(byte, b'x' | b'0'..=b'7')
 }
 
 /// What stands last.
@@ -59,6 +57,8 @@ pub struct Scan {
     before: u8,
     /// Whether the byte before is a dot that stands alone.
     is_dot: bool,
+    /// Whether it is a slash that begins a run of symbols, so that an asterisk after it opens a comment.
+    is_slash: bool,
     /// What was seen of the clause under way, outside brackets.
     pub clause: ClauseScan,
 }
@@ -122,6 +122,7 @@ impl Scan {
             mode: Mode::Code,
             before: b' ',
             is_dot: false,
+            is_slash: false,
             clause: ClauseScan::new(),
         }
     }
@@ -136,17 +137,30 @@ impl Scan {
                 self.mode = Mode::Code;
                 self.clause.take(byte, before);
             }
-            Mode::BlockComment if byte == b'/' && before == b'*' => self.end_comment(),
+            Mode::BlockComment if byte == b'/' && before == b'*' => self.leave(),
             // The byte after a backslash is a part of the escape.
-            Mode::Quoted(_) if before == b'\\' => self.before = b' ',
+            Mode::Quoted(quote) if before == b'\\' => {
+                self.before = b' ';
+                if begins_digits(byte) {
+                    self.mode = Mode::Digits(quote);
+                }
+            }
+            Mode::Digits(quote) if byte == b'\\' => {
+                self.before = b' ';
+                self.mode = Mode::Quoted(quote);
+            }
             Mode::Quoted(quote) if byte == quote => self.mode = Mode::Code,
-            Mode::Character => self.mode = Mode::after_character(byte),
+            Mode::Character if byte == b'\'' => self.mode = Mode::SecondQuote,
+            Mode::Character if byte == b'\\' => self.mode = Mode::Escape,
             // `0''` without a third quote is a number and an empty item in quotes.
             Mode::SecondQuote if byte != b'\'' => {
                 self.mode = Mode::Code;
                 return self.take_code(byte, before);
             }
-            Mode::SecondQuote | Mode::Escape => self.mode = Mode::Code,
+            Mode::Escape if begins_digits(byte) => self.mode = Mode::CharacterDigits,
+            Mode::CharacterDigits if byte != b'\\' => {}
+            Mode::CharacterDigits => self.leave(),
+            Mode::Character | Mode::SecondQuote | Mode::Escape => self.mode = Mode::Code,
             _ => {}
         }
         Ok(())
@@ -162,7 +176,9 @@ impl Scan {
         if self.open.is_empty() {
             self.clause.take(byte, before);
         }
+        let opens_comment = self.is_slash && byte == b'*';
         self.is_dot = byte == b'.' && !is_symbol(before);
+        self.is_slash = byte == b'/' && !is_symbol(before);
         match byte {
             b'(' | b'[' | b'{' => {
                 self.open.push(opened(byte, before))?;
@@ -175,7 +191,7 @@ impl Scan {
             b',' | b'|' | b';' => self.last = Last::Opening,
             b'%' => self.mode = Mode::LineComment,
             b'\'' | b'"' => self.take_quote(byte, before),
-            b'*' if before == b'/' => self.take_comment(),
+            _ if opens_comment => self.take_comment(),
             _ if is_symbol(byte) => self.take_symbol(before),
             _ if is_layout(byte) => {}
             _ => self.last = Last::Operand,
@@ -200,8 +216,8 @@ impl Scan {
         self.before = b' ';
     }
 
-    /// Takes the last byte of a comment, which begins neither a comment nor an operator.
-    fn end_comment(&mut self) {
+    /// Takes the last byte of a comment or of an escape, which begins neither a comment nor an operator.
+    fn leave(&mut self) {
         self.mode = Mode::Code;
         self.before = b' ';
     }
