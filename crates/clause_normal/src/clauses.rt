@@ -103,14 +103,8 @@ pub(crate) fn fact_rule<'a>(
     requires { IsTrue (is_known (length names.now) (tree_of head.now)) }
     ensures { AnswersRule names.now (tree_of head.now) (fact (tree_of head.now)) result }
 {
-    let call = match head_call(names, head) {
-        Ok(call) => call,
-        Err(fault) => return Err(fault),
-    };
-    match check_term(alloc, head) {
-        Ok(()) => {}
-        Err(fault) => return Err(fault),
-    }
+    let call = head_call(names, head)?;
+    check_term(alloc, head)?;
     Ok(Rule {
         head: call,
         body: Vec::new(alloc),
@@ -133,10 +127,7 @@ fn add_fact<'a>(
     ensures fit { OnOk result (AllByRecursion (RuleIsFit (length names.now)) made.old.items
         → AllByRecursion (RuleIsFit (length names.now)) made.new.items) }
 {
-    let rule = match fact_rule(alloc, names, term) {
-        Ok(rule) => rule,
-        Err(fault) => return Err(fault),
-    };
+    let rule = fact_rule(alloc, names, term)?;
     push_rule(made, rule)?;
     check_count(made, term.at)
 }
@@ -224,22 +215,11 @@ fn add_implication<'a>(
     ensures fit { OnOk result (AllByRecursion (RuleIsFit (length names.now)) made.old.items
         → AllByRecursion (RuleIsFit (length names.now)) made.new.items) }
 {
-    let call = match head_call(names, implication.head) {
-        Ok(call) => call,
-        Err(fault) => return Err(fault),
-    };
-    let after = match add_body(alloc, names, made, next, call, implication) {
-        Ok(after) => after,
-        Err(fault) => return Err(fault),
-    };
-    match check_term(alloc, implication.term) {
-        Ok(()) => {}
-        Err(fault) => return Err(fault),
-    }
-    match check_count(made, implication.term.at) {
-        Ok(()) => Ok(after),
-        Err(fault) => Err(fault),
-    }
+    let call = head_call(names, implication.head)?;
+    let after = add_body(alloc, names, made, next, call, implication)?;
+    check_term(alloc, implication.term)?;
+    check_count(made, implication.term.at)?;
+    Ok(after)
 }
 
 /// Adds the clauses that a clause of a text becomes, and answers the number of the next disjunction.
@@ -266,10 +246,10 @@ fn add_clause<'a>(
             kind,
             at: clause.term.at,
         }),
-        Form::Fact(term) => match add_fact(alloc, names, made, term) {
-            Ok(()) => Ok(next),
-            Err(fault) => Err(fault),
-        },
+        Form::Fact(term) => {
+            add_fact(alloc, names, made, term)?;
+            Ok(next)
+        }
         Form::Rule(head, body) => {
             let implication = Implication {
                 term: &clause.term,
@@ -298,10 +278,7 @@ pub(crate) fn text_rules<'a>(
     let mut made = Vec::new(alloc);
     let mut next = 1;
     'clauses: for clause in clauses {
-        match add_clause(alloc, names, &mut made, next, clause) {
-            Ok(after) => next = after,
-            Err(fault) => return Err(fault),
-        }
+        next = add_clause(alloc, names, &mut made, next, clause)?;
     }
     Ok(made)
 }

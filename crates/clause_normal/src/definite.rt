@@ -41,18 +41,9 @@ fn implication_rule<'a>(
     ensures { AnswersRule names.now (tree_of term.now)
         (rule (tree_of head.now) (tree_of body.now)) result }
 {
-    let call = match head_call(names, head) {
-        Ok(call) => call,
-        Err(fault) => return Err(fault),
-    };
-    let calls = match conjunction(alloc, names, body) {
-        Ok(calls) => calls,
-        Err(fault) => return Err(fault),
-    };
-    match check_term(alloc, term) {
-        Ok(()) => {}
-        Err(fault) => return Err(fault),
-    }
+    let call = head_call(names, head)?;
+    let calls = conjunction(alloc, names, body)?;
+    check_term(alloc, term)?;
     Ok(Rule {
         head: call,
         body: calls,
@@ -118,10 +109,7 @@ pub fn check_added(
     ensures exact { let fault = added_fault names.now clauses (clause_of clause.now) in
         MatchResult result (λ _. fault ≡ None) (λ e. IfFault e (λ f. fault ≡ Some f)) }
 {
-    match definite_rule(alloc, names, clause) {
-        Ok(_) => {}
-        Err(fault) => return Err(fault),
-    }
+    definite_rule(alloc, names, clause)?;
     if clauses >= MOST_TEXT_CLAUSES {
         Err(NormFault::Fault {
             kind: NormKind::ManyClauses,

@@ -106,10 +106,7 @@ fn add_below<'a, 'v, 'o>(
     let mut number = first;
     let mut after = next;
     'goals: for goal in goals {
-        match add_goal(alloc, places, made, number, after, goal) {
-            Ok(next) => after = next,
-            Err(fault) => return Err(fault),
-        }
+        after = add_goal(alloc, places, made, number, after, goal)?;
         number += choices(goal);
     }
     Ok(after)
@@ -173,10 +170,7 @@ fn add_branches<'a, 'v, 'o>(
     let mut after = next;
     'branches: for branch in branches {
         let head = choice_call(alloc, number, args)?;
-        match add_rules(alloc, places, made, after, head, args, branch) {
-            Ok(next) => after = next,
-            Err(fault) => return Err(fault),
-        }
+        after = add_rules(alloc, places, made, after, head, args, branch)?;
     }
     Ok(after)
 }

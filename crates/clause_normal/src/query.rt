@@ -131,10 +131,7 @@ pub(crate) fn conjunction<'a>(
     ensures named { IfOk result (λ v. AllByRecursion (λ (c : TheCall). IsNamed c.functor) v.items) }
 {
     let items = query_items(alloc, names, query)?;
-    match check_items(&items) {
-        Ok(()) => {}
-        Err(fault) => return Err(fault),
-    }
+    check_items(&items)?;
     let calls = item_calls(alloc, &items)?;
     Ok(calls)
 }

@@ -172,10 +172,7 @@ pub fn normal(alloc: Global, text: &ReadText, names: &mut Names) -> Result<Progr
     ensures room { IfOk result (λ p. position (is_equality names.new) p.preds ≡ None
         → length p.clauses < 16385) }
 {
-    let rules = match text_rules(alloc, names, text.clauses.as_slice()) {
-        Ok(rules) => rules,
-        Err(fault) => return Err(fault),
-    };
+    let rules = text_rules(alloc, names, text.clauses.as_slice())?;
     let program = whole_program(alloc, names, &rules)?;
     Ok(program)
 }

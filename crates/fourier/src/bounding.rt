@@ -26,10 +26,7 @@ pub fn greatest(rows: &Lines, k: usize, values: &VecDeque<Ratio, Global>) -> Res
     let mut best = integer(0);
     for i in 0..rows.len() {
         if is_positive(rows.get(i).entry(k)) {
-            match greater(best, rows.get(i), k, values) {
-                Ok(value) => best = value,
-                Err(wide) => return Err(wide),
-            }
+            best = greater(best, rows.get(i), k, values)?;
         }
     }
     Ok(best)
@@ -49,13 +46,11 @@ fn greater(
     ensures { Gives (greatest k (map fraction_of values.now.items) (fraction_of best)
         (row.now ∷ [])) result }
 {
-    match bound(row, k, values) {
-        Ok(value) => match exceeds(value, best) {
-            Ok(true) => Ok(value),
-            Ok(false) => Ok(best),
-            Err(wide) => Err(wide),
-        },
-        Err(wide) => Err(wide),
+    let value = bound(row, k, values)?;
+    if exceeds(value, best)? {
+        Ok(value)
+    } else {
+        Ok(best)
     }
 }
 
@@ -63,10 +58,7 @@ fn greater(
 fn exceeds(x: Ratio, y: Ratio) -> Result<bool, Wide>
     ensures { Tells (exceeds (fraction_of x) (fraction_of y)) result }
 {
-    match x.cmp(y) {
-        Ok(order) => Ok(order.is_gt()),
-        Err(wide) => Err(wide),
-    }
+    Ok(x.cmp(y)?.is_gt())
 }
 
 /// What a row that rises in a column says that its variable is at least.
@@ -77,10 +69,8 @@ fn bound(row: &Line, k: usize, values: &VecDeque<Ratio, Global>) -> Result<Ratio
     requires rises { pos 1 ≤ℤ entry row.now k }
     ensures { Gives (bound k (map fraction_of values.now.items) row.now) result }
 {
-    match sum_on(integer(row.entry(0)), row, k + 1, values) {
-        Ok(sum) => negated(sum).div(integer(row.entry(k))),
-        Err(wide) => Err(wide),
-    }
+    let sum = sum_on(integer(row.entry(0)), row, k + 1, values)?;
+    negated(sum).div(integer(row.entry(k)))
 }
 
 /// The sum of products of a row's numbers, from a place on, with values, on top of another sum.
@@ -98,10 +88,7 @@ fn sum_on(
 {
     let mut sum = start;
     for j in 0..values.len() {
-        match plus_product(sum, row.entry(from + j), values[j]) {
-            Ok(next) => sum = next,
-            Err(wide) => return Err(wide),
-        }
+        sum = plus_product(sum, row.entry(from + j), values[j])?;
     }
     Ok(sum)
 }
@@ -111,10 +98,7 @@ fn plus_product(sum: Ratio, number: i128, value: Ratio) -> Result<Ratio, Wide>
     requires { Fits number }
     ensures { Gives (sum_on (fraction_of sum) (number ∷ []) (fraction_of value ∷ [])) result }
 {
-    match integer(number).mul(value) {
-        Ok(product) => sum.add(product),
-        Err(wide) => Err(wide),
-    }
+    sum.add(integer(number).mul(value)?)
 }
 
 /// A whole number as a fraction.

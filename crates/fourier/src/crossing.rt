@@ -39,10 +39,7 @@ pub fn cross_rising(
             return Ok(());
         }
         if is_positive(rows.get(i).entry(column.k)) {
-            match cross_falling(alloc, kept, rows.get(i), rows, falls.as_slice(), column) {
-                Ok(()) => {}
-                Err(fault) => return Err(fault),
-            }
+            cross_falling(alloc, kept, rows.get(i), rows, falls.as_slice(), column)?;
         }
     }
     Ok(())
@@ -96,10 +93,7 @@ fn cross_falling(
 {
     for j in 0..falls.len() {
         if falls[j] {
-            match cross_add(alloc, kept, r, rows.get(j), column) {
-                Ok(()) => {}
-                Err(fault) => return Err(fault),
-            }
+            cross_add(alloc, kept, r, rows.get(j), column)?;
         }
     }
     Ok(())

@@ -52,10 +52,7 @@ pub fn cross_equation(
 {
     for p in 0..rows.len() {
         if elsewhere(p, i, j) {
-            match cross_solved(alloc, kept, rows.get(i), rows.get(j), rows.get(p), column) {
-                Ok(()) => {}
-                Err(fault) => return Err(fault),
-            }
+            cross_solved(alloc, kept, rows.get(i), rows.get(j), rows.get(p), column)?;
         }
     }
     Ok(())

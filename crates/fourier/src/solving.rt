@@ -75,10 +75,7 @@ fn solved(alloc: Global, rows: &Rows, brief: bool) -> Result<Solved, ElimFault>
         return Err(ElimFault::Memory);
     };
     let start = start_rows(alloc, rows)?;
-    let steps = match eliminate_columns(alloc, start, last as usize, last as usize, brief) {
-        Ok(steps) => steps,
-        Err(fault) => return Err(fault),
-    };
+    let steps = eliminate_columns(alloc, start, last as usize, last as usize, brief)?;
     if steps.left.len() > 0 {
         refuted(alloc, rows, steps.left.get(0), last)
     } else {
@@ -134,10 +131,7 @@ fn whole_values(alloc: Global, before: &History) -> Result<Numbers, ValueFault>
     ensures long { IfOk result (λ numbers. length numbers ≡ length before.now) }
     ensures wide { result ≡ Err ValueFault.Wide → whole_back before.now ≡ None }
 {
-    let values = match values_of(alloc, before) {
-        Ok(values) => values,
-        Err(fault) => return Err(fault),
-    };
+    let values = values_of(alloc, before)?;
     let Some(common) = common_of(&values) else {
         return Err(ValueFault::Wide);
     };

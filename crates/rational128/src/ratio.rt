@@ -60,7 +60,8 @@ impl Ratio {
     ///
     /// Source: the sum of fractions in Knuth 1997, The Art of Computer Programming, volume 2.
     pub fn add(self, other: Ratio) -> Result<Ratio, Wide>
-        ensures value { IfOk result (λ r. r.num *ℤ (self.den *ℤ other.den) ≡ (self.num *ℤ other.den +ℤ other.num *ℤ self.den) *ℤ r.den) }
+        ensures value { IfOk result (λ r. r.num *ℤ (self.den *ℤ other.den)
+            ≡ (self.num *ℤ other.den +ℤ other.num *ℤ self.den) *ℤ r.den) }
 
         // Wide exactly where one of those numbers does not fit.
         ensures exact { Gives (sum (fraction_of self) (fraction_of other)) result }

@@ -12,6 +12,7 @@ use Rattle.clause_normal.specs.RuleViews.{rule_of}
 use Rattle.clause_variables.specs.Occurring.{HasSize}
 use Rattle.clause_normal.proofs.FitLemmas.{goals_work, branches_work}
 use Rattle.clause_normal.proofs.QueryLemmas.{if_fault_map}
+use Rattle.clause_normal.proofs.OutcomeLemmas.{made_err}
 use Rattle.clause_normal.proofs.making.+making.Goals as goal
 
 abbrev row : List CodeGoal → Goals
@@ -50,15 +51,16 @@ add_below-add_goal-requires t c =
       (omega (arith, inv.after, ap inner left, c.requires.room), (subst B (sym vars_are) b.0, subst N (sym vars_are) inv.size)),
     )
 
-pub add_below-returns-in-Err-clause-made : goal.add_below-returns-in-Err-clause-made
-add_below-returns-in-Err-clause-made t c =
+pub add_below-returns-in_err-after-clause-made : goal.add_below-returns-in_err-after-clause-made
+add_below-returns-in_err-after-clause-made t c =
     let gs = c.args.goals.now in
     let i = c.goals.goal-index in
     let g = c.goal-item.result in
     let left = goals_left gs i g c.goals-test.true c.goal-item.is in
     let rest = row (drop (i + 1) gs) in
-    if_fault_map c.in-Err.fault (λ f. goal_fault (goal_of g) ≡ Some f) (λ f. goals_fault (row gs) ≡ Some f)
-    (λ f h. sym c.goals.invariant.fault ∙ ap goals_fault left ∙ ap (λ (o : Option Fault). first_of o (goals_fault rest)) h) c.in-Err.ensures.made
+    made_err _ _ _ _ c.from_residual.result c.in_err-after.field-0.0 c.from_residual.ensures
+    (if_fault_map c.in_err-after.field-0.0 (λ f. goal_fault (goal_of g) ≡ Some f) (λ f. goals_fault (row gs) ≡ Some f)
+    (λ f h. sym c.goals.invariant.fault ∙ ap goals_fault left ∙ ap (λ (o : Option Fault). first_of o (goals_fault rest)) h) c.in_err-after.ensures.made)
 
 pub add_below-overflow_add-number : goal.add_below-overflow_add-number
 add_below-overflow_add-number t c =
@@ -77,21 +79,21 @@ add_below-goals-preserved t c =
     let n = c.goals.number in
     let a = c.goals.after in
     let h = goal_of g in
-    let ok = c.in-Ok.ensures.made in
+    let ok = c.in_ok-after.ensures.made in
     let number : n + c.choices-number.result ≡ n + choices_at h = ap (λ (k : ℕ). n + k) c.choices-number.ensures in
     let N : ℕ → Type 0 = λ n. HasSize n c.add_goal.new.places in
     record {
       fault = sym (ap goals_fault left ∙ ap (λ (o : Option Fault). first_of o (goals_fault rest)) ok.0) ∙ inv.fault;
       made =
-          ap (λ (rs : List Rule). rs ++ below (n + c.choices-number.result) c.in-Ok.next rest) ok.1
-          ∙ append_assoc old (below_at n a h) (below (n + c.choices-number.result) c.in-Ok.next rest)
+          ap (λ (rs : List Rule). rs ++ below (n + c.choices-number.result) c.in_ok-after.after rest) ok.1
+          ∙ append_assoc old (below_at n a h) (below (n + c.choices-number.result) c.in_ok-after.after rest)
           ∙ (λ j. old ++ (below_at n a h ++ below (number j) (ok.2 j) rest))
           ∙ ap (λ (hs : Goals). old ++ below n a hs) (sym left)
           ∙ inv.made;
       after = omega (arith, inv.after, ok.2, ap inner left);
       number = omega (arith, inv.number, c.choices-number.ensures, ap choices left);
       rest = (goals_below (length c.args.places.now.firsts.items) gs i g c.goals-test.true c.goal-item.is inv.rest).1;
-      size = subst N inv.size.firsts c.in-Ok.ensures.size;
+      size = subst N inv.size.firsts c.in_ok-after.ensures.size;
       smaller = omega (arith, inv.smaller, ap goals_work left);
     }
 
@@ -130,8 +132,8 @@ add_branches-add_rules-requires t c =
       (omega (arith, inv.after, ap within left, c.requires.room), (subst A vars_are c.requires.args, (subst B vars_are b.0, subst N vars_are inv.size))),
     )
 
-pub add_branches-returns-in-Err-clause-made : goal.add_branches-returns-in-Err-clause-made
-add_branches-returns-in-Err-clause-made t c =
+pub add_branches-returns-in_err-after-clause-made : goal.add_branches-returns-in_err-after-clause-made
+add_branches-returns-in_err-after-clause-made t c =
     let args = c.args.args.now in
     let os = c.args.branches.now in
     let i = c.branches.branch-index in
@@ -139,8 +141,9 @@ add_branches-returns-in-Err-clause-made t c =
     let left : branches_in (drop i os) args ≡ more_branches (outline_goals o args) (branches_in (drop (i + 1) os) args) =
     ap (λ (us : Outlines). outlines_branches us args) (outlines_left os i o c.branches-test.true c.branch-item.is) in
     let rest = branches_in (drop (i + 1) os) args in
-    if_fault_map c.in-Err.fault (λ f. goals_fault (outline_goals o args) ≡ Some f) (λ f. branches_fault (branches_in os args) ≡ Some f)
-    (λ f h. sym c.branches.invariant.fault ∙ ap branches_fault left ∙ ap (λ (u : Option Fault). first_of u (branches_fault rest)) h) c.in-Err.ensures.made
+    made_err _ _ _ _ c.from_residual-in_err-after.result c.in_err-after.field-0.0 c.from_residual-in_err-after.ensures
+    (if_fault_map c.in_err-after.field-0.0 (λ f. goals_fault (outline_goals o args) ≡ Some f) (λ f. branches_fault (branches_in os args) ≡ Some f)
+    (λ f h. sym c.branches.invariant.fault ∙ ap branches_fault left ∙ ap (λ (u : Option Fault). first_of u (branches_fault rest)) h) c.in_err-after.ensures.made)
 
 pub add_branches-branches-preserved : goal.add_branches-branches-preserved
 add_branches-branches-preserved t c =
@@ -156,19 +159,19 @@ add_branches-branches-preserved t c =
     let old = map rule_of c.branches.made.items in
     let a = c.branches.after in
     let head = choice_call c.args.number args in
-    let ok = c.in-Ok.ensures.made in
+    let ok = c.in_ok-after.ensures.made in
     let N : ℕ → Type 0 = λ n. HasSize n c.add_rules.new.places in
     record {
       fault = sym (ap branches_fault left ∙ ap (λ (u : Option Fault). first_of u (branches_fault rest)) ok.0) ∙ inv.fault;
       made =
-          ap (λ (rs : List Rule). rs ++ branch_rules head c.in-Ok.next rest) (ok.1 ∙ ap (λ (k : Call). old ++ rules a k gs) c.in_ok-head.ensures)
-          ∙ append_assoc old (rules a head gs) (branch_rules head c.in-Ok.next rest)
+          ap (λ (rs : List Rule). rs ++ branch_rules head c.in_ok-after.after rest) (ok.1 ∙ ap (λ (k : Call). old ++ rules a k gs) c.in_ok-head.ensures)
+          ∙ append_assoc old (rules a head gs) (branch_rules head c.in_ok-after.after rest)
           ∙ ap (λ (k : ℕ). old ++ (rules a head gs ++ branch_rules head k rest)) ok.2
           ∙ ap (λ (bs : Branches). old ++ branch_rules head a bs) (sym left)
           ∙ inv.made;
       after = omega (arith, inv.after, ok.2, ap within left);
       rest = (subst (OutlinesBelow (length c.args.places.now.firsts.items)) plain inv.rest).1;
-      size = subst N inv.size.firsts c.in-Ok.ensures.size;
+      size = subst N inv.size.firsts c.in_ok-after.ensures.size;
       smaller = omega (arith, inv.smaller, ap branches_work left);
     }
 

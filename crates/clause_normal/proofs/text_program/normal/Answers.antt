@@ -17,20 +17,20 @@ pub whole_program-requires-clause-ordinary : goal.whole_program-requires-clause-
 whole_program-requires-clause-ordinary c =
     let names = c.args.names.now in
     let A : List CodeRule → Type 0 = λ rs. AllByRecursion (λ (r : Rule). IsOrdinaryCall names r.head) (map rule_of rs) in
-    subst A (sym c.deref.ensures.value) (rules_ordinary names _ (map rule_of c.in-Ok.rules.items) c.in-Ok.ensures.rules)
+    subst A (sym c.deref.ensures.value) (rules_ordinary names _ (map rule_of c.in_ok-rules.rules.items) c.in_ok-rules.ensures.rules)
 
 pub returns-clause-exact : goal.returns-clause-exact
 returns-clause-exact c =
     let names = c.args.names.now in
     let later = c.whole_program.new.names in
     let cs = c.args.text.now.clauses in
-    let program : c.in_ok-program.program ≡ with_equality later (with_rules later (empty_program later) (map rule_of c.in-Ok.rules.items)) =
+    let program : c.in_ok-program.program ≡ with_equality later (with_rules later (empty_program later) (map rule_of c.in_ok-rules.rules.items)) =
     c.in_ok-program.ensures.program ∙ ap (λ (rs : List CodeRule). with_equality later (with_rules later (empty_program later) (map rule_of rs))) c.deref.ensures.value in
-    ap (program_of later) (rules_stay names later c.in_ok-program.ensures.kept [] 1 cs c.requires.fit.each ∙ ap (normal_rules names [] 1) (sym c.as_slice.ensures) ∙ c.in-Ok.ensures.rules)
+    ap (program_of later) (rules_stay names later c.in_ok-program.ensures.kept [] 1 cs c.requires.fit.each ∙ ap (normal_rules names [] 1) (sym c.as_slice.ensures) ∙ c.in_ok-rules.ensures.rules)
     ∙ ap (λ (p : Listing). Ok p) (sym program)
 
 pub returns-clause-names : goal.returns-clause-names
 returns-clause-names c =
     let names = c.args.names.now in
     c.in_ok-program.ensures.added ∙ ap (λ (rs : List CodeRule). with_names names (operation_texts ++ rule_texts (map rule_of rs))) c.deref.ensures.value
-    ∙ ap (λ (r : Result (List Rule) Fault). with_names names (made_texts r)) (sym (ap (normal_rules names [] 1) (sym c.as_slice.ensures) ∙ c.in-Ok.ensures.rules))
+    ∙ ap (λ (r : Result (List Rule) Fault). with_names names (made_texts r)) (sym (ap (normal_rules names [] 1) (sym c.as_slice.ensures) ∙ c.in_ok-rules.ensures.rules))

@@ -2,6 +2,7 @@ use Rattle.std.proofs.Common.{rules, ◌≡◌, ◌<◌, length, true, false, ar
 use Rattle.std.specs.Int.{w128}
 use Rattle.std.specs.Prelude.{FitsSigned, ◌≤ℤ◌}
 use Rattle.std.proofs.lemmas.Int.{to_z-of_z}
+use Rattle.std.proofs.lemmas.Result.{err_from_is_err_and}
 use Rattle.exact128.specs.Sums.{entry}
 use Rattle.linear_rows.specs.Elimination.{is_positive, crossed, falling, crossings, rising}
 use Rattle.linear_rows.specs.Blown.{crossed_fits, crossings_fit, all_of}
@@ -15,7 +16,7 @@ use Rattle.fourier.proofs.StepLemmas.{fits_unless}
 use Rattle.fourier.proofs.SmallLemmas.{stopped}
 use Rattle.fourier.proofs.Loops.{done_none, done_yes, done_no, done_all, not_all, at_long, fold-flat_map}
 use Rattle.fourier.proofs.crossing.cross_rising.Goals as goal
-use Rattle.fourier.proofs.crossing.cross_rising.Goals.{then-is_positive+in-Ok, else-is_positive}
+use Rattle.fourier.proofs.crossing.cross_rising.Goals.{then-is_positive+in_ok-cross_falling, else-is_positive}
 
 pub loop-i-init : goal.loop-i-init
 loop-i-init c = done_none _ _ _
@@ -26,10 +27,10 @@ loop-i-preserved c =
     let e = (simp to_z-of_z at c.is_positive.ensures) ∙ ap is_positive (c.entry.ensures ∙ ap (λ r. entry r c.args.column.k) c.get.ensures) in
     let lt : c.loop-i.i < length c.args.rows.now = omega arith in
     elim c.if-is_positive.branch [
-      | then-is_positive+in-Ok w ↦
+      | then-is_positive+in_ok-cross_falling w ↦
           let t : is_positive (entry (get_or c.args.rows.now c.loop-i.i []) c.args.column.k) ≡ true = cc (e, w.if-is_positive.true) in
           done_yes _ (λ r. all_of (crossed_fits c.args.column.k r) (falling c.args.column.k c.args.rows.now)) (λ r. is_positive (entry r c.args.column.k)) c.args.kept.now c.loop-i.kept c.if-is_positive.kept c.args.rows.now c.loop-i.i [] w.get-then-is_positive.result.now lt c.loop-i.invariant t w.get-then-is_positive.ensures
-          (w.kept-is ∙ w.in-Ok.ensures.kept) w.in-Ok.ensures.fits
+          (w.kept-is ∙ w.in_ok-cross_falling.ensures.kept) w.in_ok-cross_falling.ensures.fits
       | else-is_positive w ↦
           let t : is_positive (entry (get_or c.args.rows.now c.loop-i.i []) c.args.column.k) ≡ false = cc (e, w.if-is_positive.false) in
           rw w.kept-is (done_no _ (λ r. all_of (crossed_fits c.args.column.k r) (falling c.args.column.k c.args.rows.now)) (λ r. is_positive (entry r c.args.column.k)) c.args.kept.now c.loop-i.kept c.args.rows.now c.loop-i.i [] lt c.loop-i.invariant t)
@@ -50,15 +51,16 @@ cross_falling-requires c =
       rises = subst (λ r. pos 1 ≤ℤ entry r c.args.column.k) (sym c.get-then-is_positive.ensures) up;
     }
 
-pub returns-in-Err-clause-wide : goal.returns-in-Err-clause-wide
+pub returns-in_err-cross_falling-clause-wide : goal.returns-in_err-cross_falling-clause-wide
 unfolding crossings_fit
-returns-in-Err-clause-wide c =
+returns-in_err-cross_falling-clause-wide c =
     let f : FitsSigned w128 c.entry.result = search rules in
     let e = (simp to_z-of_z at c.is_positive.ensures) ∙ ap is_positive (c.entry.ensures ∙ ap (λ r. entry r c.args.column.k) c.get.ensures) in
     let lt : c.loop-i.i < length c.args.rows.now = omega arith in
     let t : is_positive (entry (get_or c.args.rows.now c.loop-i.i []) c.args.column.k) ≡ true = cc (e, c.if-is_positive.true) in
+    let p = err_from_is_err_and c.from_residual-in_err-cross_falling.result c.from_residual-in_err-cross_falling.ensures.1 in
     λ is. not_all (λ r. is_positive (entry r c.args.column.k)) (λ r. all_of (crossed_fits c.args.column.k r) (falling c.args.column.k c.args.rows.now)) c.args.rows.now c.loop-i.i [] lt t
-    (sym (ap (λ r. all_of (crossed_fits c.args.column.k r) (falling c.args.column.k c.args.rows.now)) c.get-then-is_positive.ensures) ∙ c.in-Err.ensures.wide is)
+    (sym (ap (λ r. all_of (crossed_fits c.args.column.k r) (falling c.args.column.k c.args.rows.now)) c.get-then-is_positive.ensures) ∙ c.in_err-cross_falling.ensures.wide (cc (p.1, p.2, is)))
 
 pub returns-then-is_crowded : goal.returns-then-is_crowded
 unfolding crossings
