@@ -6,7 +6,7 @@ ghost use Rattle.certificate.specs.declared.fact.Fact.TheVariants as fact;
 ghost use Rattle.cert_structure.specs.Numbered.{facts_from};
 ghost use Rattle.cert_structure.specs.Order.{pred_text};
 ghost use Rattle.cert_structure.specs.Shape.{head_of};
-ghost use Rattle.linear_rows.specs.Plain.{plain_row, plain_rows};
+ghost use Rattle.linear_rows.specs.Plain.{plain_rows};
 ghost use Rattle.numeric_model.specs.States.{plain_step};
 ghost use Rattle.certificate.specs.Text.{text_of};
 ghost use Rattle.cert_assembly.specs.ChainNotes.{chain_notes, how_noted, noted_if, step_notes};
@@ -15,7 +15,7 @@ use crate::named::pred_text;
 use crate::printed::print_facts;
 use certificate::{CertHow, Fact};
 use cti_terms::{Names, PredId, Program};
-use linear_rows::{Row, Rows};
+use linear_rows::Rows;
 use numeric_model::{How, Step};
 use sequences::Sequence;
 use std::alloc::{AllocError, Global};
@@ -32,24 +32,13 @@ fn head_of(p: &Program, clause: u32) -> PredId
     }
 }
 
-/// A row's numbers, the constant first.
-fn row_numbers(alloc: Global, row: &Row) -> Result<Sequence<i128>, AllocError>
-    ensures { IfOk result (λ numbers. numbers ≡ plain_row row.now) }
-{
-    let coeffs = row.coeffs.as_slice();
-    let mut numbers = Vec::with_capacity(alloc, coeffs.len() + 1)?;
-    numbers.push(row.constant)?;
-    numbers.extend_from_slice(coeffs)?;
-    Ok(Sequence::from_vec(numbers))
-}
-
 /// The numbers of rows.
 fn numbers_of(alloc: Global, rows: &Rows) -> Result<Sequence<Sequence<i128>>, AllocError>
     ensures { IfOk result (λ numbers. numbers ≡ plain_rows rows.now.list) }
 {
     let mut numbers = Sequence::new(alloc);
     for row in rows.list.as_slice() {
-        numbers.push(row_numbers(alloc, row)?)?;
+        numbers.push(row.numbers(alloc)?)?;
     }
     Ok(numbers)
 }

@@ -41,7 +41,7 @@ pub use numbers::{level, multipliers, scaled_point};
 pub use pair::{Pair, vars};
 pub use parts::Parts;
 pub use preconditions::Preconditions;
-pub use reading::{one_structure, one_structure_fault, parts_of};
+pub use reading::{one_structure, one_structure_fault, parts_of, told_apart};
 pub use refutations::{PointFacts, Refutations};
 pub use shared_fact::{AsShared, SharedFact};
 pub use sizes::{PredRows, Proofs, rows_into, rows_of, rows_of_atoms};

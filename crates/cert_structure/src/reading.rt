@@ -170,7 +170,7 @@ fn whole(alloc: Global, calls: &Calls, names: &Names, facts: &[Fact]) -> Result<
 }
 
 /// The predicates of a program are distinguished by their texts.
-fn told_apart(p: &Program, names: &Names)
+pub fn told_apart(p: &Program, names: &Names)
     requires { AreNamed names.now p.now.preds }
     ensures { (a b : ℕ) → a < b → b < length p.now.preds
         → pred_text p.now names.now b ≢ pred_text p.now names.now a }

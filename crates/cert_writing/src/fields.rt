@@ -1,11 +1,10 @@
 //! The fields of facts, from those of parts.
 
-ghost use Rattle.std.specs.Prelude.{◌≡◌, ◌<◌, ◌+◌, ◌^◌, ◌∷◌, suc, IfOk, map};
+ghost use Rattle.std.specs.Prelude.{◌≡◌, ◌<◌, ◌+◌, ◌^◌, suc, IfOk, map};
 ghost use Rattle.cert_structure.specs.Order.{cell_of};
 
 use bool_diagrams::{Cell, Cube};
 use certificate::CertCell;
-use linear_rows::Row;
 use sequences::Sequence;
 use std::alloc::{AllocError, Global};
 
@@ -23,16 +22,6 @@ pub fn numbers(alloc: Global, numbers: &[i128]) -> Result<Sequence<i128>, AllocE
     ensures { IfOk result (λ copy. copy ≡ numbers.now) }
 {
     Ok(Sequence::from_vec(Vec::from_slice(alloc, numbers)?))
-}
-
-/// A row's numbers, the constant first.
-pub fn row_numbers(alloc: Global, row: &Row) -> Result<Sequence<i128>, AllocError>
-    ensures { IfOk result (λ copy. copy ≡ row.now.constant ∷ row.now.coeffs) }
-{
-    let mut numbers = Vec::new(alloc);
-    numbers.push(row.constant)?;
-    numbers.extend_from_slice(row.coeffs.as_slice())?;
-    Ok(Sequence::from_vec(numbers))
 }
 
 /// A cell of a cube, for a fact.

@@ -5,7 +5,7 @@ ghost use Rattle.fact_reading.specs.Numbered.{lines_from};
 ghost use Rattle.cert_structure.specs.Order.{pred_text};
 ghost use Rattle.cert_structure.specs.Walk.{named};
 
-use crate::fields::{counted, numbers, row_numbers};
+use crate::fields::{counted, numbers};
 use crate::shared_facts::FromShared;
 use crate::writer::{Writer, write_each};
 use cert_structure::Named;
@@ -33,7 +33,7 @@ impl<F: FromShared> Writer<F> for SizeRowsOf<'_> {
         out: &mut Sequence<F>,
     ) -> Result<(), AllocError> {
         let pred = self.pred.text(alloc)?;
-        let row = row_numbers(alloc, item)?;
+        let row = item.numbers(alloc)?;
         out.push(F::size(pred, number + 1, row))
     }
 }

@@ -19,6 +19,7 @@ use crate::search::{Attempt, Entered, Search};
 use bumpalo::Bump;
 use cti_terms::{Goal, Program};
 use std::alloc::{AllocError, Global};
+use unifier::counter::counter_after;
 
 /// How a run ended.
 #[derive(Clone, Copy, Debug, PartialEq, Eq)]
@@ -100,16 +101,6 @@ impl Drop for Running<'_> {
             has_begun: _,
             totals: _,
         } = self;
-    }
-}
-
-/// The counter of the goal that a clause leaves. Above all variables that can be numbered, it is out of memory.
-fn counter_after(fresh: u32, vars: u32) -> Result<u32, AllocError>
-    ensures { IfOk result (λ n. n ≡ fresh + vars) }
-{
-    match fresh.checked_add(vars) {
-        Some(sum) => Ok(sum),
-        None => Err(AllocError),
     }
 }
 

@@ -1,9 +1,8 @@
 //! Reading the parts of a certificate of lists.
 
-ghost use Rattle.std.specs.Prelude.{◌≡◌, ◌≢◌, ◌<◌, length, ℕ, AllPairs, List, IfOk, IfSome, Some};
+ghost use Rattle.std.specs.Prelude.{◌≡◌, ◌≢◌, ℕ, AllPairs, List, IfOk, IfSome, Some};
 ghost use Rattle.std.specs.List.{list_all};
 ghost use Rattle.call_components.specs.Partition.{Partition, AreComponents};
-ghost use Rattle.cert_structure.specs.Order.{pred_text};
 ghost use Rattle.cert_structure.specs.Structure.{AreNamed};
 ghost use Rattle.cti_terms.specs.Listing.{Listing, IsProgram};
 ghost use Rattle.fact_reading.specs.Filling.{Fills};
@@ -21,7 +20,7 @@ use crate::lists::levels_into;
 use crate::parts::LexParts;
 use call_components::Components;
 use cert_structure::{
-    Calls, Grounds, Modes, Preconditions, PredRows, Proofs, Refutations, rows_into,
+    Calls, Grounds, Modes, Preconditions, PredRows, Proofs, Refutations, rows_into, told_apart,
 };
 use cti_terms::{Names, Program};
 use fact_reading::{FactFault, Kind, Stop, each_into, first_item};
@@ -151,16 +150,6 @@ fn whole(
         Err(Stop::Wrong { .. }) => Ok(None),
         Err(Stop::Memory) => Err(AllocError),
     }
-}
-
-/// The predicates of a program are distinguished by their texts.
-fn told_apart(p: &Program, names: &Names)
-    requires { AreNamed names.now p.now.preds }
-    ensures { (a b : ℕ) → a < b → b < length p.now.preds
-        → pred_text p.now names.now b ≢ pred_text p.now names.now a }
-{
-    let _preds = p.preds();
-    let _names = names.count();
 }
 
 /// The parts of a certificate: what it claims of each predicate and clause of a program, and with which proofs. None where

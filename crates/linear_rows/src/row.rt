@@ -38,6 +38,17 @@ impl Row {
             coeffs,
         })
     }
+
+    /// Copies the numbers, the constant first.
+    pub fn numbers(&self, alloc: Global) -> Result<Sequence<i128>, AllocError>
+        ensures { IfOk result (λ numbers. numbers ≡ plain_row self.now) }
+    {
+        let coeffs = self.coeffs.as_slice();
+        let mut numbers = Vec::with_capacity(alloc, coeffs.len() + 1)?;
+        numbers.push(self.constant)?;
+        numbers.extend_from_slice(coeffs)?;
+        Ok(Sequence::from_vec(numbers))
+    }
 }
 
 /// A list of rows.

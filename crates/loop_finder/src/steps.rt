@@ -1,6 +1,6 @@
 //! A step of resolution, on goals as they are.
 
-ghost use Rattle.std.specs.Prelude.{◌≡◌, ◌≤◌, ◌+◌, ◌++◌, ◌∷◌, IfOk, OnOk, length, map, option_map};
+ghost use Rattle.std.specs.Prelude.{◌≡◌, ◌≤◌, ◌++◌, ◌∷◌, IfOk, OnOk, length, map, option_map};
 ghost use Rattle.cti_terms.specs.Resolve.{over, raised, resolve_by, resolve};
 ghost use Rattle.unifier.specs.Store.{full};
 ghost use Rattle.cti_terms.specs.Below.{AtomsBelow};
@@ -10,14 +10,8 @@ use crate::room::Room;
 use cti_terms::{Atom, Atoms, Clause, Goal, Program};
 use std::alloc::{AllocError, Global};
 use unifier::bindings::Bindings;
+use unifier::counter::counter_after;
 use unifier::heads::{Stacks, unify_head};
-
-/// The counter of the goal that a clause leaves. Above all variables that can be numbered, it is out of memory.
-fn counter_after(fresh: u32, vars: u32) -> Result<u32, AllocError>
-    ensures { IfOk result (λ n. n ≡ fresh + vars) }
-{
-    fresh.checked_add(vars).ok_or(AllocError)
-}
 
 /// The goal that a clause leaves of a first atom and others, where its head is of the atom's predicate and unifies with
 /// it.

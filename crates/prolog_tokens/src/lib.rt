@@ -20,5 +20,5 @@ mod token;
 pub use decoding::{decode, items_are_decoded};
 pub use fault::{LexFault, LexKind};
 pub use lexer::{Lexer, longest_match};
-pub use quoting::{quote, quoted_names_are_read_back};
+pub use quoting::{is_empty_list, quote, quoted_names_are_read_back};
 pub use token::{Token, TokenKind};

@@ -45,7 +45,7 @@ fn is_plain_word(text: &[u8]) -> bool
 }
 
 /// Whether a name is `[]`.
-fn is_empty_list(text: &[u8]) -> bool
+pub fn is_empty_list(text: &[u8]) -> bool
     ensures { result ≡ is_empty_list text.now }
 {
     match text {

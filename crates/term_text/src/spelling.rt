@@ -4,14 +4,13 @@ ghost use Rattle.std.specs.Prelude.{◌≡◌, ◌≤◌, ◌<◌, ◌+◌, ◌*
 ghost use Rattle.std.specs.Fmt.{signed_decimal};
 ghost use Rattle.cti_terms.specs.Tree.{all_nodes, nodes_of};
 ghost use Rattle.cti_terms.specs.Spell.{tree_of, trees_of};
-ghost use Rattle.prolog_tokens.specs.Spelling.{is_empty_list};
 ghost use Rattle.term_text.specs.Spelling.{name_of, is_dot, no_list, functional, compound, all_spelled, spelled, other_arguments};
 ghost use Rattle.term_text.specs.Left.{part_text, left_text, part_work, left_work};
 
 use crate::part::Part;
 use cti_terms::{Name, Names, Term};
 use itoa::Buffer;
-use prolog_tokens::quote;
+use prolog_tokens::{is_empty_list, quote};
 use std::alloc::AllocError;
 
 /// The text of a name, which is empty for a number that the names do not have.
@@ -32,16 +31,6 @@ fn is_dot(name: &[u8]) -> bool
 {
     match name {
         [byte] => *byte == b'.',
-        _ => false,
-    }
-}
-
-/// Whether a name is that of the empty list.
-fn is_empty_list(name: &[u8]) -> bool
-    ensures { result ≡ is_empty_list name.now }
-{
-    match name {
-        [first, second] => *first == b'[' && *second == b']',
         _ => false,
     }
 }

@@ -8,6 +8,7 @@
 #![tactic(auto)]
 
 pub mod bindings;
+pub mod counter;
 pub mod equal_pairs;
 pub mod heads;
 pub mod occurs_check;
