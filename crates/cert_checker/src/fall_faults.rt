@@ -29,7 +29,7 @@ use call_components::Components;
 use cert_structure::{LevelPart, Parts};
 use cti_terms::{Atom, Clause, Program};
 use linear_rows::{Multipliers, Numbers, Rows, System};
-use number_tests::{Flaw, extend, fall_columns, fall_flaw, first_system, weigh_fall};
+use number_tests::{Flaw, extend, fall_columns, first_system, multipliers_flaw, weigh_drop};
 use sequences::Sequence;
 use std::alloc::{AllocError, Global};
 use term_size::Norm;
@@ -57,9 +57,9 @@ fn mapping_flaw(
         (λ flaw. IfSome flaw (MultipliersFail (plain_rows rows.now.list) by.now.list
         (over_columns columns.now (fall_weights head.now call.now)) by.now.scale)) }
 {
-    let weights = weigh_fall(alloc, head, call)?;
+    let weights = weigh_drop(alloc, head, call, true)?;
     let target = replaced(alloc, weights.as_slice(), columns)?;
-    Ok(fall_flaw(rows, target, by))
+    Ok(multipliers_flaw(rows, target, by))
 }
 
 /// The first mapping that its multipliers do not show to fall. The first one has this line.

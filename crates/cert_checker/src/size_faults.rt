@@ -22,7 +22,7 @@ use crate::reason::Reason;
 use cert_structure::Parts;
 use cti_terms::{Clause, Program};
 use linear_rows::{Multipliers, Numbers, Row, Rows};
-use number_tests::{Flaw, extend, first_system, size_flaw, size_target};
+use number_tests::{Flaw, extend, first_system, multipliers_flaw, size_target};
 use std::alloc::{AllocError, Global};
 use term_size::Norm;
 use termination_model::{SizeRows, columns};
@@ -48,7 +48,7 @@ fn row_flaw(
         (over_columns columns.now (plain_row row.now)) by.now.scale)) }
 {
     let target = size_target(alloc, row, columns)?;
-    Ok(size_flaw(rows, target, by))
+    Ok(multipliers_flaw(rows, target, by))
 }
 
 /// The first size row of a clause's head that its multipliers do not show. The first one has this line.

@@ -11,7 +11,7 @@ ghost use Rattle.linear_rows.specs.Showing.{AreMultipliers};
 use cti_terms::PredId;
 use level_systems::{Fall, Measure, OwnCall};
 use linear_rows::{Multipliers, Numbers};
-use number_tests::{LevelPart, fall_flaw, weigh_fall};
+use number_tests::{LevelPart, multipliers_flaw, weigh_drop};
 use sequences::Sequence;
 use std::alloc::{AllocError, Global};
 use termination_model::replaced;
@@ -86,9 +86,9 @@ fn fall_at(
     let Some(call) = find_part(measures, own.callee) else {
         return Ok(None);
     };
-    let weights = weigh_fall(alloc, head, call)?;
+    let weights = weigh_drop(alloc, head, call, true)?;
     let target = replaced(alloc, weights.as_slice(), own.columns.as_slice())?;
-    if fall_flaw(&own.rows, target, &by).is_some() {
+    if multipliers_flaw(&own.rows, target, &by).is_some() {
         return Ok(None);
     }
     Ok(Some(Fall {

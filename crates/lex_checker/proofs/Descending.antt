@@ -12,7 +12,7 @@ use Rattle.call_components.specs.Partition.{Partition, AreComponents, IsIn}
 use Rattle.call_components.proofs.Lists.{has_contains}
 use Rattle.cert_checker.specs.Shape.{AreTogether}
 use Rattle.cert_checker.proofs.Claims.{natural_is, naturals_are}
-use Rattle.level_drops.specs.Drops.{drop_of}
+use Rattle.number_tests.specs.Drops.{drop_of}
 use Rattle.linear_rows.specs.Proves.{Proves}
 use Rattle.linear_rows.specs.Showing.{AreMultipliers, IsShown}
 use Rattle.linear_rows.specs.declared.multipliers.Multipliers.{Multipliers}

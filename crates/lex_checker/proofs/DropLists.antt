@@ -11,8 +11,8 @@ use Rattle.cti_terms.specs.Tree.{Tree}
 use Rattle.cti_terms.specs.declared.atom_list.Atom.{Atom}
 use Rattle.cti_terms.specs.declared.clauses.Clause.{Clause}
 use Rattle.cti_terms.specs.declared.predicates.Pred.{Pred}
-use Rattle.level_drops.proofs.DropLaws.{drop_target}
-use Rattle.level_drops.specs.Drops.{drop_of, drop_weights}
+use Rattle.number_tests.proofs.DropLaws.{drop_target}
+use Rattle.number_tests.specs.Drops.{drop_of, drop_weights}
 use Rattle.lex_certificate.specs.declared.parts.LexParts.{LexParts}
 use Rattle.linear_rows.specs.Showing.{AreMultipliers, IsShown}
 use Rattle.linear_rows.specs.declared.multipliers.Multipliers.{Multipliers}

@@ -15,7 +15,7 @@ use Rattle.cti_terms.specs.Listing.{Listing}
 use Rattle.cti_terms.specs.Tree.{Tree}
 use Rattle.cti_terms.specs.declared.atom_list.Atom.{Atom}
 use Rattle.cti_terms.specs.declared.clauses.Clause.{Clause}
-use Rattle.level_drops.specs.Drops.{drop_of, fall_number}
+use Rattle.number_tests.specs.Drops.{drop_of, fall_number}
 use Rattle.lex_certificate.specs.declared.parts.LexParts.{LexParts}
 use Rattle.linear_rows.specs.Showing.{IsShown}
 use Rattle.linear_rows.specs.declared.multipliers.Multipliers.{Multipliers}

@@ -12,7 +12,7 @@ use Rattle.cti_terms.specs.Listing.{Listing}
 use Rattle.cti_terms.specs.declared.atom_list.Atom.{Atom}
 use Rattle.cti_terms.specs.declared.clauses.Clause.{Clause}
 use Rattle.cti_terms.specs.declared.predicates.Pred.{Pred}
-use Rattle.level_drops.specs.Drops.{drop_weights}
+use Rattle.number_tests.specs.Drops.{drop_weights}
 use Rattle.lex_certificate.specs.declared.parts.LexParts.{LexParts}
 use Rattle.linear_rows.specs.Showing.{AreMultipliers, IsShown}
 use Rattle.linear_rows.specs.declared.multipliers.Multipliers.{Multipliers}

@@ -3,7 +3,7 @@
 ghost use Rattle.std.specs.Prelude.{◌≡◌, ◌↔◌, ◌+◌, ◌-◌, ◌≤◌, ℕ, IfOk, IsTrue, Some, length, slice_get};
 ghost use Rattle.call_components.specs.Partition.{AreComponents};
 ghost use Rattle.cti_terms.specs.declared.clauses.Clause.{Clause as TheClause};
-ghost use Rattle.level_drops.specs.Drops.{drop_weights, fall_number};
+ghost use Rattle.number_tests.specs.Drops.{drop_weights, fall_number};
 ghost use Rattle.lex_checker.specs.Proved.{CallsDrop, DropsHold, MeasuresDrop};
 ghost use Rattle.lex_checker.specs.Shape.{AreListsAt, AreShown, CanDrop, HaveDrops, HaveLists};
 ghost use Rattle.linear_rows.specs.Plain.{HaveWidth, plain_rows};
@@ -16,10 +16,9 @@ ghost use Rattle.termination_model.specs.sizes.Sizes.{AreSizes, rows_of};
 use crate::items::items_at;
 use call_components::Components;
 use cti_terms::{Atom, Clause, Program};
-use level_drops::weigh_drop;
 use lex_certificate::LexParts;
 use linear_rows::{Multipliers, Numbers, Row, Rows, System};
-use number_tests::{LevelPart, extend, fall_columns, fall_flaw, first_system};
+use number_tests::{LevelPart, extend, fall_columns, first_system, multipliers_flaw, weigh_drop};
 use sequences::Sequence;
 use std::alloc::{AllocError, Global};
 use term_size::Norm;
@@ -63,7 +62,7 @@ fn measures_drop(
     for i in 0..proofs.len() {
         let falls = i + 1 == proofs.len();
         let target = drop_row(alloc, columns, &heads[i], &calls[i], falls)?;
-        if fall_flaw(rows, target, &proofs[i]).is_some() {
+        if multipliers_flaw(rows, target, &proofs[i]).is_some() {
             return Ok(false);
         }
     }

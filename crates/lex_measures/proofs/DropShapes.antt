@@ -17,7 +17,7 @@ use Rattle.cti_terms.specs.Tree.{Tree}
 use Rattle.cti_terms.specs.declared.atom_list.Atom.{Atom}
 use Rattle.cti_terms.specs.declared.clauses.Clause.{Clause}
 use Rattle.fact_reading.specs.Numbered.{AreEach}
-use Rattle.level_drops.specs.Drops.{drop_of, fall_number}
+use Rattle.number_tests.specs.Drops.{drop_of, fall_number}
 use Rattle.level_systems.specs.Mappings.{HasMeasures, level_in}
 use Rattle.level_systems.specs.Pairs.{calls_from, pairs_of}
 use Rattle.level_systems.specs.declared.measure.Measure.{Measure}

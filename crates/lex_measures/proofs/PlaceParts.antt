@@ -6,7 +6,7 @@ use Rattle.cti_terms.specs.Listing.{Listing}
 use Rattle.cti_terms.specs.Tree.{Tree}
 use Rattle.fact_reading.specs.Numbered.{AreEach, EachFrom}
 use Rattle.cert_structure.specs.Numbered as old
-use Rattle.level_drops.specs.Drops.{fall_number}
+use Rattle.number_tests.specs.Drops.{fall_number}
 use Rattle.level_systems.specs.declared.measure.Measure.{Measure}
 use Rattle.lex_turns.specs.Descending.{HasPlace, IsDrop}
 use Rattle.lex_turns.specs.declared.call_drops.CallDrops.{CallDrops}

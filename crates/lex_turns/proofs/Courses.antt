@@ -35,7 +35,7 @@ use Rattle.lex_turns.proofs.Leaving.{first_reached, left_needed, more_left, more
 use Rattle.lex_turns.specs.Descending.{AreMeasuresOf, AreReached, HasPlace, IsGivenUp, IsListAt, IsMeasureOf, IsTurnBlown, is_first}
 use Rattle.lex_turns.specs.Descending.IsGivenUp.{turned, zero as zero_fails}
 use Rattle.lex_turns.specs.Descending.AreMeasuresAt.{turned as measured_turned, zero as measured_zero}
-use Rattle.level_drops.specs.Drops.{fall_number}
+use Rattle.number_tests.specs.Drops.{fall_number}
 use Rattle.lex_turns.specs.Testing.{EmptyFall, SomeFalls}
 use Rattle.lex_turns.specs.Zeros.{AreZeros}
 use Rattle.lex_turns.proofs.DropsShown.{all_dead}

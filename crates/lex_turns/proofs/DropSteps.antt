@@ -4,7 +4,7 @@ use Rattle.level_systems.specs.declared.measure.Measure.{Measure}
 use Rattle.level_systems.specs.declared.own_call.OwnCall.{OwnCall}
 use Rattle.linear_rows.specs.declared.multipliers.Multipliers.{Multipliers}
 use Rattle.termination_model.specs.claims.Claims.{SomeOf}
-use Rattle.level_drops.specs.Drops.{fall_number}
+use Rattle.number_tests.specs.Drops.{fall_number}
 use Rattle.lex_turns.specs.Testing.{IsDropIf, ShowDrops, ShowsDrop, SomeFalls, first_by}
 
 pub some_left : {X : Type 0} (P : X → Type 0) (xs ys : List X) → SomeOf P xs → SomeOf P (xs ++ ys)

@@ -37,9 +37,9 @@ use Rattle.level_systems.specs.declared.own_call.OwnCall.{OwnCall}
 use Rattle.level_systems.proofs.HeldCalls.{re, rows_are}
 use Rattle.level_dual.proofs.FoundLaws.{part_of}
 use Rattle.level_dual.proofs.SearchLaws.{drop_mapped, take_mapped}
-use Rattle.level_drops.specs.Drops.{drop_weights, fall_number}
+use Rattle.number_tests.specs.Drops.{drop_weights, fall_number}
 use Rattle.lex_turns.specs.Testing.{EmptyFall, ShowDrops, ShowsDrop, SomeFalls}
-use Rattle.level_drops.proofs.DropLaws.{drop_target}
+use Rattle.number_tests.proofs.DropLaws.{drop_target}
 
 -- ---- scale 0 shows any target
 goal_same : (xs ys : List ℤ) (k : ℕ) → goal_number (pos 0) xs k ≡ goal_number (pos 0) ys k

@@ -25,10 +25,10 @@ use Rattle.level_systems.specs.declared.measure.Measure.{Measure}
 use Rattle.level_systems.specs.declared.own_call.OwnCall.{OwnCall}
 use Rattle.level_systems.proofs.Falls.{short_same}
 use Rattle.lex_turns.specs.Descending.{HasPlace, IsDrop}
-use Rattle.level_drops.specs.Drops.{drop_of, drop_weights}
+use Rattle.number_tests.specs.Drops.{drop_of, drop_weights}
 use Rattle.lex_turns.specs.Tracking.{AreTracked, ShowPlace, Shown, kept}
 use Rattle.lex_turns.specs.declared.call_drops.CallDrops.{CallDrops}
-use Rattle.level_drops.proofs.DropLaws.{drop_target}
+use Rattle.number_tests.proofs.DropLaws.{drop_target}
 
 -- where no call is kept, each has its place
 abbrev ArePlaced : List (List Measure) → List OwnCall → List CallDrops → Type 0

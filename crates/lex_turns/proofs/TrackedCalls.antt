@@ -16,7 +16,7 @@ use Rattle.level_dual.proofs.SearchLaws.{length_take}
 use Rattle.termination_model.proofs.Lists.{there}
 use Rattle.linear_rows.specs.Members.{In}
 use Rattle.std.proofs.Common.{inl, inr}
-use Rattle.level_drops.specs.Drops.{fall_number}
+use Rattle.number_tests.specs.Drops.{fall_number}
 use Rattle.lex_turns.specs.Testing.{AreAmong, EmptyFall, EmptyFalls, ShowDrops, ShowsDrop, first_by}
 use Rattle.lex_turns.specs.Tracking.{AreTracked, HasLeft, IsTracked, ShowPlace, ShowStays, Shown, after_drops, after_falls, drops_first, given, gone_first, kept, staying, with_by}
 use Rattle.lex_turns.specs.declared.call_drops.CallDrops.{CallDrops}

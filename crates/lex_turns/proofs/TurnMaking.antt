@@ -42,7 +42,7 @@ use Rattle.level_dual.proofs.SearchLaws.{drop_mapped, length_drop, length_take, 
 use Rattle.level_dual.proofs.SupportLaws.{has_parts}
 use Rattle.lex_turns.specs.Descending.{IsTurnBlown, turn_solution}
 use Rattle.lex_turns.specs.Descending.IsTurnBlown.{mapping, solving}
-use Rattle.level_drops.specs.Drops.{fall_number}
+use Rattle.number_tests.specs.Drops.{fall_number}
 use Rattle.lex_turns.specs.Testing.{AreAmong, EmptyFall, ShowDrops, SomeFalls}
 use Rattle.lex_turns.specs.Turning.{IsMade, IsTurnOf, multipliers_in}
 use Rattle.lex_turns.specs.declared.turn.Made.{Made}

@@ -39,7 +39,7 @@ use Rattle.level_systems.specs.Mappings.{HasMeasures, level_in}
 use Rattle.level_systems.specs.Pairs.{pairs_of}
 use Rattle.level_systems.specs.Valued.{IsPartOf}
 use Rattle.level_systems.specs.declared.measure.Measure.{Measure}
-use Rattle.level_drops.specs.Drops.{drop_of}
+use Rattle.number_tests.specs.Drops.{drop_of}
 use Rattle.lex_turns.specs.declared.call_drops.CallDrops.{CallDrops}
 use Rattle.lex_turns.specs.declared.measure_list.MeasureList.{MeasureList}
 

@@ -12,7 +12,7 @@ use Rattle.termination_model.specs.claims.Claims.{SomeOf}
 use Rattle.level_systems.specs.Mappings.{level_in}
 use Rattle.level_systems.specs.declared.measure.Measure.{Measure}
 use Rattle.level_systems.specs.declared.own_call.OwnCall.{OwnCall}
-use Rattle.level_drops.specs.Drops.{drop_weights, fall_number}
+use Rattle.number_tests.specs.Drops.{drop_weights, fall_number}
 
 -- the answer says whether this holds
 abbrev pub Tells : Type 0 → Bool → Type 0

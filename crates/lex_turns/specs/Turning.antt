@@ -19,7 +19,7 @@ use Rattle.level_systems.specs.declared.measure.Measure.{Measure}
 use Rattle.level_systems.specs.declared.own_call.OwnCall.{OwnCall}
 use Rattle.level_systems.specs.declared.position.Position.{Position}
 use Rattle.lex_turns.specs.Descending.{IsMeasureOf, IsTurnBlown}
-use Rattle.level_drops.specs.Drops.{fall_number}
+use Rattle.number_tests.specs.Drops.{fall_number}
 use Rattle.lex_turns.specs.Testing.{EmptyFall, ShowDrops, SomeFalls}
 use Rattle.lex_turns.specs.declared.turn.Made.{Made}
 use Rattle.lex_turns.specs.declared.turn.Step.{Step}

@@ -4,16 +4,15 @@ ghost use Rattle.std.specs.Prelude.{◌≡◌, ◌≤◌, ◌≤ℤ◌, ◌↔�
 ghost use Rattle.std.specs.List.{AllByRecursion};
 ghost use Rattle.level_systems.specs.Falling.{HasParts, IsReady};
 ghost use Rattle.level_systems.specs.Turned.{all_rows, held_of};
-ghost use Rattle.level_drops.specs.Drops.{fall_number};
+ghost use Rattle.number_tests.specs.Drops.{fall_number};
 ghost use Rattle.lex_turns.specs.Testing.{AreDropsIf, EmptyFall, IsDropIf, ShowsDrop, SomeFalls, Tells, first_by};
 ghost use Rattle.linear_rows.specs.Plain.{HaveWidth};
 ghost use Rattle.linear_rows.specs.Showing.{AreMultipliers};
 
-use level_drops::weigh_drop;
 use level_dual::find_part;
 use level_systems::{Measure, OwnCall};
 use linear_rows::{Multipliers, Numbers};
-use number_tests::fall_flaw;
+use number_tests::{multipliers_flaw, weigh_drop};
 use sequences::Sequence;
 use std::alloc::{AllocError, Global};
 use termination_model::replaced;
@@ -66,7 +65,7 @@ fn shows_drop(
     };
     let weights = weigh_drop(alloc, head, call, falls)?;
     let target = replaced(alloc, weights.as_slice(), own.columns.as_slice())?;
-    if fall_flaw(&own.rows, target, by).is_some() {
+    if multipliers_flaw(&own.rows, target, by).is_some() {
         return Ok(false);
     }
     Ok(true)

@@ -1,6 +1,7 @@
 pub mod BeforeLaws
 pub mod CallFacts
 pub mod ColumnLengths
+pub mod DropLaws
 pub mod FallTargets
 pub mod FlawLaws
 pub mod PointSteps

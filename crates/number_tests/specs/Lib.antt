@@ -1,3 +1,4 @@
+pub mod Drops
 pub mod Failing
 pub mod Levels
 pub mod PairSums

@@ -1,7 +1,8 @@
 -- Private.
 -- The numbers of a fall, as the code sums them. Nothing here has to be believed.
-use Rattle.std.specs.Prelude.{◌≡◌, ◌<◌, ◌≤ℤ◌, ℕ, suc, ℤ, pos, neg_ℤ, ◌-ℤ◌, List, [], ◌∷◌, ◌++◌, All, length, map, slice_index_or}
+use Rattle.std.specs.Prelude.{◌≡◌, ◌<◌, ◌≤ℤ◌, ℕ, suc, ℤ, pos, List, [], ◌∷◌, ◌++◌, All, length, slice_index_or}
 use Rattle.termination_model.specs.sizes.Replacing.{column_over}
+use Rattle.number_tests.specs.Drops.{drop_weights}
 use Rattle.number_tests.specs.declared.level_part.LevelPart.{LevelPart}
 
 -- each column of the first list, followed by that of the second
@@ -17,7 +18,7 @@ pub record AreFallColumns (head call : List (List ℤ)) (vars : ℕ) (columns : 
 
 -- the head's offset and coefficients, and the call's with the other sign, and 1 less
 abbrev pub fall_weights : LevelPart → LevelPart → List ℤ
-fall_weights head call = (head.offset ∷ head.coeffs) ++ ((neg_ℤ call.offset -ℤ pos 1) ∷ map neg_ℤ call.coeffs)
+fall_weights = drop_weights 1
 
 -- natural numbers of the call, and columns as long as the weights
 pub record CanBeWeighed (columns : List (List ℤ)) (head call : LevelPart) : Type 0 where

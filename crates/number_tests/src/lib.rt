@@ -33,5 +33,5 @@ pub use pair_sums::sums_flaw;
 pub use point_flaw::PointFlaw;
 pub use point_flaws::{points_flaw, points_of};
 pub use refutation::Refutation;
-pub use row_proofs::{check_fall, check_size, fall_flaw, size_flaw};
-pub use targets::{join_columns, size_target, weigh_fall};
+pub use row_proofs::{check_fall, check_size, multipliers_flaw};
+pub use targets::{join_columns, size_target, weigh_drop};

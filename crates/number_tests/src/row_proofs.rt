@@ -71,8 +71,8 @@ fn flaw_of(proof: Proof) -> Option<Flaw>
     }
 }
 
-/// Why multipliers do not show a size row, if they do not. It takes no memory.
-pub fn size_flaw(rows: &Rows, target: Option<Row>, by: &Multipliers) -> Option<Flaw>
+/// Why multipliers do not show a size row or a fall, if they do not. It takes no memory.
+pub fn multipliers_flaw(rows: &Rows, target: Option<Row>, by: &Multipliers) -> Option<Flaw>
     requires multipliers { AreMultipliers (length rows.now.list) by.now }
     requires width { HaveWidth rows.now.width rows.now.list }
     requires target { IfSome target (λ t. length t.coeffs ≡ rows.now.width) }
@@ -82,19 +82,5 @@ pub fn size_flaw(rows: &Rows, target: Option<Row>, by: &Multipliers) -> Option<F
     let Some(target) = target else {
         return Some(Flaw::Wide);
     };
-    flaw_of(check_size(rows, &target, by))
-}
-
-/// Why multipliers do not show a fall, if they do not. It takes no memory.
-pub fn fall_flaw(rows: &Rows, target: Option<Row>, by: &Multipliers) -> Option<Flaw>
-    requires multipliers { AreMultipliers (length rows.now.list) by.now }
-    requires width { HaveWidth rows.now.width rows.now.list }
-    requires target { IfSome target (λ t. length t.coeffs ≡ rows.now.width) }
-    ensures shows { FlawShows (plain_rows rows.now.list) target by.now result }
-    ensures fails { FlawFails (plain_rows rows.now.list) target by.now result }
-{
-    let Some(target) = target else {
-        return Some(Flaw::Wide);
-    };
-    flaw_of(check_fall(rows, &target, by))
+    flaw_of(proves(rows, by.list.as_slice(), &target, by.scale))
 }

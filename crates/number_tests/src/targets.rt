@@ -1,7 +1,8 @@
 //! Rows over a clause's variables that multipliers have to show.
 
 ghost use Rattle.std.specs.Prelude.{◌≡◌, ◌≤◌, ◌≤ℤ◌, ◌-ℤ◌, ◌∷◌, ◌++◌, All, IfOk, length, map, neg_ℤ, pos};
-ghost use Rattle.number_tests.specs.Targets.{fall_weights, joined};
+ghost use Rattle.number_tests.specs.Drops.{drop_weights, fall_number};
+ghost use Rattle.number_tests.specs.Targets.{joined};
 ghost use Rattle.linear_rows.specs.Plain.{plain_row};
 ghost use Rattle.termination_model.specs.sizes.Replacing.{IsRowIfFits, over_columns};
 
@@ -42,20 +43,35 @@ pub fn join_columns(
     Ok(columns)
 }
 
-/// What counts of a fall: the head's offset and coefficients, and the call's with the other sign, and 1 less.
-pub fn weigh_fall(
+/// The offset of a call with the other sign, and 1 less where the levels fall.
+fn offset_weight(call: &LevelPart, falls: bool) -> i128
+    requires { pos 0 ≤ℤ call.now.offset }
+    ensures { result ≡ neg_ℤ call.now.offset -ℤ pos (fall_number falls) }
+{
+    if falls {
+        -call.offset - 1
+    } else {
+        -call.offset
+    }
+}
+
+/// What counts of a drop: the head's offset and coefficients, and the call's with the other sign, and 1 less where the
+/// levels fall.
+pub fn weigh_drop(
     alloc: Global,
     head: &LevelPart,
     call: &LevelPart,
+    falls: bool,
 ) -> Result<Vec<i128>, AllocError>
     requires offset { pos 0 ≤ℤ call.now.offset }
     requires coefficients { All (λ x. pos 0 ≤ℤ x) call.now.coeffs }
-    ensures { IfOk result (λ weights. weights.items ≡ fall_weights head.now call.now) }
+    ensures { IfOk result (λ weights. weights.items
+        ≡ drop_weights (fall_number falls) head.now call.now) }
 {
     let mut weights = Vec::new(alloc);
     weights.push(head.offset)?;
     weights.extend_from_slice(head.coeffs.as_slice())?;
-    weights.push(-call.offset - 1)?;
+    weights.push(offset_weight(call, falls))?;
     for coefficient in call.coeffs.as_slice() {
         weights.push(-*coefficient)?;
     }

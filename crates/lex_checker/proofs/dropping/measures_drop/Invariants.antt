@@ -1,5 +1,5 @@
 use Rattle.std.proofs.Common.{◌≡◌, ◌<◌, ℕ, length, slice_get, Some}
-use Rattle.level_drops.specs.Drops.{drop_weights}
+use Rattle.number_tests.specs.Drops.{drop_weights}
 use Rattle.linear_rows.specs.Plain.{plain_rows}
 use Rattle.linear_rows.specs.Showing.{IsShown}
 use Rattle.linear_rows.specs.declared.multipliers.Multipliers.{Multipliers}

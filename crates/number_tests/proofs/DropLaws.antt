@@ -17,7 +17,7 @@ use Rattle.termination_model.proofs.Entries.{entry_scaled}
 use Rattle.termination_model.proofs.RowColumns.{entry_added, entry_substituted, over_list}
 use Rattle.termination_model.proofs.SystemLaws.{widths}
 use Rattle.number_tests.specs.Targets.{AreFallColumns}
-use Rattle.level_drops.specs.Drops.{drop_of, drop_weights}
+use Rattle.number_tests.specs.Drops.{drop_of, drop_weights}
 
 -- the row of a number
 entry_one : (d x : ℕ) → entry (pos d ∷ []) x ≡ pos d *ℤ unit_at x

@@ -1,9 +1,10 @@
 use Rattle.std.proofs.Common.{rules, ◌≡◌, ◌≤ℤ◌, ◌-ℤ◌, ◌∷◌, ◌++◌, [], List, ℤ, pos, neg_ℤ, get_or, slice_get, Some, sym, subst, ap, ◌∙◌, arith, FitsSigned, length}
 use Rattle.std.specs.Int.{w128}
 use Rattle.std.proofs.lemmas.Int.{ints, to_z-of_z}
+use Rattle.number_tests.specs.Drops.{fall_number}
 use Rattle.termination_model.proofs.Lists.{there}
 use Rattle.number_tests.proofs.TargetLists.{negation_fits, weights_more}
-use Rattle.number_tests.proofs.targets.weigh_fall.Goals as goal
+use Rattle.number_tests.proofs.targets.weigh_drop.Goals as goal
 
 pub overflow_sub-coefficient : goal.overflow_sub-coefficient
 overflow_sub-coefficient c =
@@ -25,4 +26,4 @@ loop-coefficient-preserved c =
     let pushed = simp to_z-of_z at c.in_ok-push-3.ensures.items in
     let negative : pos 0 -ℤ x ≡ neg_ℤ x = omega (arith, ints) in
     pushed ∙ (λ i. c.loop-coefficient.invariant i ++ negative i ∷ [])
-    ∙ weights_more (c.args.head.now.offset ∷ c.args.head.now.coeffs) (neg_ℤ c.args.call.now.offset -ℤ pos 1) c.args.call.now.coeffs n x at
+    ∙ weights_more (c.args.head.now.offset ∷ c.args.head.now.coeffs) (neg_ℤ c.args.call.now.offset -ℤ pos (fall_number c.args.falls)) c.args.call.now.coeffs n x at
