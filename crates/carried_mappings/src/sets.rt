@@ -4,9 +4,9 @@ ghost use Rattle.std.specs.Prelude.{◌≡◌, ◌<◌, ◌+◌, ◌^◌, IfOk, 
 ghost use Rattle.std.specs.List.{list_any};
 ghost use Rattle.carried_mappings.specs.Reordered.{is_same_set, renumbered};
 
-use level_dual::is_part;
 use sequences::Sequence;
 use std::alloc::{AllocError, Global};
+use termination_model::is_part;
 
 /// Whether a number is in a set.
 fn has_number(set: &[u32], number: u32) -> bool

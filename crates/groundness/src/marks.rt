@@ -1,8 +1,11 @@
 //! Marks of the clauses that may still give a row.
 
-ghost use Rattle.std.specs.Prelude.{◌≡◌, ◌<◌, ℕ, Bool, true, false, IfOk, OnOk, Contains, MatchOption, length, replicate, slice_set};
-ghost use Rattle.groundness.specs.Marks.{AreWaiting, IsMarked};
+ghost use Rattle.std.specs.Prelude.{◌≡◌, ◌<◌, ℕ, Bool, true, false, IfOk, OnOk, Contains, MatchOption, Some, length, replicate, slice_get, slice_set};
+ghost use Rattle.cti_terms.specs.declared.predicates.PredId.{PredId as ThePred};
+ghost use Rattle.groundness.specs.Marks.{AreWaiting, HasUser, IsMarked};
 
+use crate::clause_lists::ClauseLists;
+use cti_terms::PredId;
 use std::alloc::{AllocError, Global};
 use std::marker::Model;
 
@@ -60,6 +63,23 @@ impl Marks {
     {
         for clause in clauses {
             self.mark(*clause)?;
+        }
+        Ok(())
+    }
+
+    /// Marks the clauses that have one of these predicates in their heads.
+    pub fn mark_members(
+        &mut self,
+        heads: &ClauseLists,
+        members: &[PredId],
+    ) -> Result<(), AllocError>
+        requires { (q j : ℕ) → HasUser heads.now q j → j < length self.old }
+        ensures each { length self.new ≡ length self.old }
+        ensures marked { OnOk result ((i j : ℕ) (a : ThePred) → slice_get members.now i ≡ Some a
+            → HasUser heads.now a.0 j → IsMarked self.new j) }
+    {
+        for member in members {
+            self.mark_all(heads.of(*member))?;
         }
         Ok(())
     }

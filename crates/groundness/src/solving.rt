@@ -1,7 +1,6 @@
 //! The least family, from the rows of built-in predicates upward, component by component.
 
 ghost use Rattle.std.specs.Prelude.{◌≡◌, ◌<◌, ◌≤◌, ◌-◌, ◌&&◌, ℕ, Bool, true, false, IfOk, OnOk, length, slice_get, Some};
-ghost use Rattle.cti_terms.specs.declared.predicates.PredId.{PredId as ThePred};
 ghost use Rattle.bool_diagrams.specs.Rows.{IsDiagram, Keeps, holds};
 ghost use Rattle.call_components.specs.Partition.{AreComponents};
 ghost use Rattle.cti_terms.specs.Listing.{IsProgram};
@@ -9,21 +8,21 @@ ghost use Rattle.cti_terms.specs.declared.clauses.Clause.{Clause};
 ghost use Rattle.groundness.specs.Components.{AddsOnlyNeededIn, HaveStartRows, HasNoRows, UnmarkedAreClosedIn};
 ghost use Rattle.termination_model.specs.chains.Chain.{is_member};
 ghost use Rattle.termination_model.specs.grounds.LeastOver.{IsLeastOver};
-ghost use Rattle.groundness.specs.Marks.{HasUser, IsApart, IsMarked, work};
+ghost use Rattle.groundness.specs.Marks.{IsApart, IsMarked, work};
 ghost use Rattle.groundness.specs.Setting.{IsSetting};
 ghost use Rattle.groundness.specs.Missing.{all_missing};
 ghost use Rattle.truth_rows.specs.Sets.{AreSets, family_of};
 ghost use Rattle.groundness.specs.Sets.{AddsOnlyNeeded, AreBegun, KeepsOtherSets, set_as};
 ghost use Rattle.termination_model.specs.grounds.Grounds.{IsClosedUnder, IsInside, IsLeast};
 
-use crate::clause_lists::{ClauseLists, heads, users};
+use crate::clause_lists::{heads, users};
 use crate::clause_rows::clause_rows;
 use crate::grounds::Grounds;
 use crate::marks::Marks;
 use crate::setting::Setting;
 use bool_diagrams::{Diagram, Table};
 use call_components::Components;
-use cti_terms::{Builtin, PredId, Program};
+use cti_terms::{Builtin, Program};
 use std::alloc::{AllocError, Global};
 use term_size::Norm;
 
@@ -202,25 +201,8 @@ fn add_all<N: Norm>(
         (family_of setting.now.program.now.preds table.old sets.old)
         (family_of setting.now.program.now.preds table.new sets.new)) }
 {
-    mark_members(setting.heads, setting.comps.members(c), marks)?;
+    marks.mark_members(setting.heads, setting.comps.members(c))?;
     while add_next(setting, c, marks, table, sets)? {}
-    Ok(())
-}
-
-/// Marks the clauses of these predicates.
-fn mark_members(
-    heads: &ClauseLists,
-    members: &[PredId],
-    marks: &mut Marks,
-) -> Result<(), AllocError>
-    requires { (q j : ℕ) → HasUser heads.now q j → j < length marks.old }
-    ensures each { length marks.new ≡ length marks.old }
-    ensures marked { OnOk result ((i j : ℕ) (a : ThePred) → slice_get members.now i ≡ Some a
-        → HasUser heads.now a.0 j → IsMarked marks.new j) }
-{
-    for member in members {
-        marks.mark_all(heads.of(*member))?;
-    }
     Ok(())
 }
 

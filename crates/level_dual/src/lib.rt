@@ -29,4 +29,4 @@ pub use number_tests::{LevelPart, PairPoint, Refutation};
 pub use refuting::are_formed;
 pub use searching::{measures_at, positions_at, search};
 pub use small::{is_below, with_full};
-pub use walking::{copied, copied_sets, is_above, is_part};
+pub use walking::{copied, copied_sets, is_above};

@@ -11,11 +11,12 @@ ghost use Rattle.termination_model.specs.grounds.Modes.{is_part};
 ghost use Rattle.termination_model.specs.mappings.ComponentViews.{HasSupportIn};
 
 use crate::walked::Walked;
-use crate::walking::{is_part, walk};
+use crate::walking::walk;
 use cti_terms::Program;
 use level_systems::{Component, Found};
 use sequences::Sequence;
 use std::alloc::{AllocError, Global};
+use termination_model::is_part;
 
 /// Whether some set has all numbers of a set.
 pub fn is_below(sets: &[Sequence<u32>], set: &[u32]) -> bool

@@ -13,19 +13,7 @@ use cti_terms::Program;
 use level_systems::{Answer, Component};
 use sequences::Sequence;
 use std::alloc::{AllocError, Global};
-use termination_model::number_sets;
-
-/// Whether each number of the first list is in the second.
-pub fn is_part(xs: &[u32], ys: &[u32]) -> bool
-    ensures { result ≡ is_part xs.now ys.now }
-{
-    for x in xs {
-        if !ys.contains(x) {
-            return false;
-        }
-    }
-    true
-}
+use termination_model::{is_part, number_sets};
 
 /// Whether some set of a list is part of a set.
 pub fn is_above(sets: &[Sequence<u32>], set: &[u32]) -> bool

@@ -18,7 +18,7 @@ ghost use Rattle.termination_model.specs.mappings.SupportSystem.{call_rows, less
 use crate::own_call::OwnCall;
 use crate::position::Position;
 use cti_terms::PredId;
-use linear_rows::{Numbers, Row, Rows};
+use linear_rows::{Numbers, Row, Rows, number};
 use std::alloc::{AllocError, Global};
 
 /// The most numbers in the rows of a system, which take 512 MB in each of the tables that a search makes of them. A system
@@ -32,18 +32,6 @@ pub(crate) fn check_room(system: &Rows, more: usize) -> Result<(), AllocError> {
         return Err(AllocError);
     }
     Ok(())
-}
-
-/// The number of a row in a column.
-fn number(row: &Row, x: usize) -> i128
-    requires { x < length (plain_row row.now) }
-    ensures { result ≡ entry (plain_row row.now) x }
-{
-    if x == 0 {
-        row.constant
-    } else {
-        row.coeffs.entry(x - 1)
-    }
 }
 
 /// What a position's coefficient counts in a column of the level of an atom with these sizes.

@@ -14,6 +14,7 @@ pub mod Sequence
 pub mod Origins
 pub mod Worths
 pub mod Values
+pub mod RowValues
 pub mod Commons
 pub mod Starts
 pub mod Founds

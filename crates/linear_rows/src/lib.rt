@@ -16,6 +16,7 @@ mod proving;
 mod row;
 mod system;
 
+pub use columns::number;
 pub use combining::{RowFault, combine};
 pub use multipliers::{Multipliers, Proof, copied_multipliers};
 pub use numbers::{Numbers, zeros};

@@ -1,8 +1,10 @@
 //! Rows and lists of them.
 
-ghost use Rattle.std.specs.Prelude.{◌≡◌, length, [], ◌∷◌, ◌++◌, OnOk, OnErr, IfOk};
+ghost use Rattle.std.specs.Prelude.{◌≡◌, length, [], ◌∷◌, ◌++◌, OnOk, OnErr, IfOk, IfSome};
+ghost use Rattle.exact128.specs.Sums.{dot};
 
 use crate::numbers::{Numbers, zeros};
+use exact128::{plus, sum_of_products, times};
 use sequences::Sequence;
 use std::alloc::{AllocError, Global};
 
@@ -26,6 +28,17 @@ impl Row {
             constant: -1,
             coeffs,
         })
+    }
+
+    /// The value at `w` over `t`, times `t`. None where `w` has another length, or a number that it is formed of does not fit.
+    pub fn value_at(&self, t: i128, w: &[i128]) -> Option<i128>
+        ensures { IfSome result (λ value. value ≡ dot (plain_row self.now) (t ∷ w.now)) }
+    {
+        if w.len() != self.coeffs.len() {
+            return None;
+        }
+        let products = sum_of_products(self.coeffs.as_slice(), w)?;
+        plus(times(self.constant, t)?, products)
     }
 
     /// Makes a copy.

@@ -1,6 +1,6 @@
 -- Minimal modes, and lists that are filtered.
 use Rattle.std.proofs.Common.{◌≡◌, ℕ, zero, suc, ◌+◌, Bool, true, false, ◌&&◌, ◌||◌, not, nat_lt, List, [], ◌∷◌, ◌++◌, length, take, slice_get, Some, refl, ap, sym, ◌∙◌, arith}
-use Rattle.std.specs.List.{filter, list_all, list_any}
+use Rattle.std.specs.List.{filter, list_any}
 use Rattle.std.proofs.lemmas.List.Elements.{filter-append}
 use Rattle.termination_model.specs.claims.Descent.{mode_row}
 use Rattle.termination_model.specs.grounds.Modes.{chosen_up_to, is_part, modes}
@@ -50,7 +50,3 @@ filter_left_at f xs n x at e = ap (filter f) (sym (take_more xs n x at)) ∙ fil
 pub any_false : {X : Type 0} → (f : X → Bool) (xs : List X) → ((i : ℕ) (x : X) → slice_get xs i ≡ Some x → f x ≡ false) → list_any f xs ≡ false
 any_false f [] h = refl
 any_false f (x ∷ xs) h = (λ i. h 0 x refl i || list_any f xs) ∙ any_false f xs (λ i y e. h (suc i) y e)
-
-pub all_true : {X : Type 0} → (f : X → Bool) (xs : List X) → ((i : ℕ) (x : X) → slice_get xs i ≡ Some x → f x ≡ true) → list_all f xs ≡ true
-all_true f [] h = refl
-all_true f (x ∷ xs) h = (λ k. h 0 x refl k && list_all f xs) ∙ all_true f xs (λ i y e. h (suc i) y e)

@@ -15,7 +15,7 @@ use bool_diagrams::{Diagram, Table};
 use cti_terms::{MOST_ARGUMENTS, PredId, Program};
 use sequences::Sequence;
 use std::alloc::{AllocError, Global};
-use termination_model::number_sets;
+use termination_model::{is_part, number_sets};
 use truth_rows::admits;
 
 /// The minimal modes of each predicate, in order, where these are the sets of its rows.
@@ -115,16 +115,4 @@ fn has_less(lists: &[Sequence<u32>], args: &[u32]) -> bool
         }
     }
     false
-}
-
-/// Whether each number of a list is in another.
-fn is_part(part: &[u32], whole: &[u32]) -> bool
-    ensures { result ≡ is_part part.now whole.now }
-{
-    for number in part {
-        if !whole.contains(number) {
-            return false;
-        }
-    }
-    true
 }

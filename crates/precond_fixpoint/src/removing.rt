@@ -5,8 +5,7 @@ ghost use Rattle.truth_rows.specs.Rules.{KeepsSets, same_rank};
 ghost use Rattle.truth_rows.specs.Sets.{AreSets};
 ghost use Rattle.bool_diagrams.specs.Rows.{Keeps};
 ghost use Rattle.cti_terms.specs.declared.clauses.Clause.{Clause};
-ghost use Rattle.cti_terms.specs.declared.predicates.PredId.{PredId as ThePred};
-ghost use Rattle.groundness.specs.Marks.{HasUser, IsApart, IsMarked};
+ghost use Rattle.groundness.specs.Marks.{IsApart, IsMarked};
 ghost use Rattle.precond_fixpoint.specs.Removing.{AreCovering, Needed, RemovesBroken, UnmarkedKeep, all_present, is_ranked, work};
 ghost use Rattle.precond_fixpoint.specs.Greatest.{IsGreatestIn};
 ghost use Rattle.precond_fixpoint.specs.Setting.{IsComponent, IsSetting, rows_of};
@@ -15,8 +14,7 @@ ghost use Rattle.termination_model.specs.grounds.Grounds.{IsInside};
 use crate::breaking::broken_rows;
 use crate::setting::{Component, Setting};
 use bool_diagrams::{Diagram, Table};
-use cti_terms::PredId;
-use groundness::{ClauseLists, Marks};
+use groundness::Marks;
 use std::alloc::AllocError;
 use term_size::Norm;
 use truth_rows::ClauseRule;
@@ -158,25 +156,8 @@ pub(crate) fn shrink<N: Norm>(
         (rows_of setting.now table.old setting.now.grounds.now) coefficients
         (rows_of setting.now table.new sets.new)) }
 {
-    mark_members(setting.heads, component.members, marks)?;
+    marks.mark_members(setting.heads, component.members)?;
     while remove_next(setting, component, table, marks, sets)? {}
-    Ok(())
-}
-
-/// Marks the clauses of these predicates.
-fn mark_members(
-    heads: &ClauseLists,
-    members: &[PredId],
-    marks: &mut Marks,
-) -> Result<(), AllocError>
-    requires { (q j : ℕ) → HasUser heads.now q j → j < length marks.old }
-    ensures each { length marks.new ≡ length marks.old }
-    ensures marked { OnOk result ((i j : ℕ) (a : ThePred) → slice_get members.now i ≡ Some a
-        → HasUser heads.now a.0 j → IsMarked marks.new j) }
-{
-    for member in members {
-        marks.mark_all(heads.of(*member))?;
-    }
     Ok(())
 }
 

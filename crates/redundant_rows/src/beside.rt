@@ -7,7 +7,6 @@ ghost use Rattle.std.specs.Prelude.{◌≡◌, length, IfOk, IfSome};
 ghost use Rattle.linear_rows.specs.Plain.{plain_row, plain_rows, HaveWidth};
 ghost use Rattle.linear_rows.specs.Showing.{FailsAt};
 
-use crate::points::value_at;
 use linear_rows::{Point, Row, Rows};
 use simplex::fails_at;
 use std::alloc::{AllocError, Global};
@@ -26,7 +25,9 @@ pub(crate) fn failing_beside(
         (FailsAt rows.now.width (plain_rows rows.now.list) (plain_row row.now))) }
 {
     match inside {
-        Some(inside) if value_at(row, inside) == Some(0) => along_columns(alloc, rows, row, inside),
+        Some(inside) if row.value_at(inside.t, inside.w.as_slice()) == Some(0) => {
+            along_columns(alloc, rows, row, inside)
+        }
         _ => Ok(None),
     }
 }

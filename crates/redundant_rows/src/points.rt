@@ -4,7 +4,7 @@
 
 ghost use Rattle.std.specs.Prelude.{◌≡◌, IfOk};
 
-use exact128::{plus, sum_of_products, times};
+use exact128::{plus, times};
 use linear_rows::{Numbers, Point, Row, System};
 use std::alloc::{AllocError, Global};
 
@@ -24,15 +24,6 @@ pub fn copied_if_known(alloc: Global, point: &Option<Point>) -> Result<Option<Po
         Some(point) => Ok(Some(copied(alloc, point)?)),
         None => Ok(None),
     }
-}
-
-/// The value of a row at a point, where the numbers that it is formed of fit.
-pub(crate) fn value_at(row: &Row, point: &Point) -> Option<i128> {
-    if row.coeffs.len() != point.w.len() {
-        return None;
-    }
-    let products = sum_of_products(row.coeffs.as_slice(), point.w.as_slice())?;
-    plus(times(row.constant, point.t)?, products)
 }
 
 /// How often each of two points is taken.

@@ -6,7 +6,7 @@
 ghost use Rattle.std.specs.Prelude.{◌≡◌, length};
 
 use crate::mark::Mark;
-use crate::points::{Weights, copied, value_at, weighed};
+use crate::points::{Weights, copied, weighed};
 use exact128::{gcd, minus, plus, quotient};
 use exact256::{Integer, is_less_product};
 use linear_rows::{Point, Row, Rows};
@@ -139,11 +139,11 @@ impl Way {
 
     /// These, and a row, if it is met. None where it is met at the point inside, or a number does not fit.
     fn past(self, place: usize, row: &Row, inside: &Point, outside: &Point) -> Option<Way> {
-        let value = value_at(row, outside)?;
+        let value = row.value_at(outside.t, outside.w.as_slice())?;
         if value >= 0 {
             return Some(self);
         }
-        let near = value_at(row, inside)?;
+        let near = row.value_at(inside.t, inside.w.as_slice())?;
         if near < 1 {
             return None;
         }

@@ -17,7 +17,7 @@ use exact128::{plus, times};
 use exact256::{Integer, is_less_product};
 use linear_rows::{Multipliers, Numbers, Point, Row, Rows};
 use std::alloc::{AllocError, Global};
-use tableaux::{is_point, most_pivots, value_at};
+use tableaux::{is_point, most_pivots};
 
 /// After so many pivots of a search the smallest indices are chosen.
 const EARLY_PIVOTS: usize = 40;
@@ -382,11 +382,8 @@ fn along(
 
 /// How often a way is to be gone from a point until a row fails.
 fn steps(row: &Row, from: &Point, way: &Point) -> Option<i128> {
-    if from.w.len() != row.coeffs.len() || way.w.len() != row.coeffs.len() {
-        return None;
-    }
-    let here = value_at(row, from.t, from.w.as_slice())?;
-    let fall = value_at(row, way.t, way.w.as_slice())?;
+    let here = row.value_at(from.t, from.w.as_slice())?;
+    let fall = row.value_at(way.t, way.w.as_slice())?;
     if here < 0 {
         Some(0)
     } else {

@@ -8,7 +8,7 @@ ghost use Rattle.linear_rows.specs.Showing.{FailsAt, Shows};
 
 use exact128::fits;
 use linear_rows::{Multipliers, Point, Proof, Row, Rows, proves};
-use tableaux::{are_natural, is_point, value_at};
+use tableaux::{are_natural, is_point};
 
 /// Whether a row is seen to fail at a point at which all rows are seen to hold, in numbers that fit.
 pub fn fails_at(rows: &Rows, row: &Row, point: &Point) -> bool
@@ -17,10 +17,7 @@ pub fn fails_at(rows: &Rows, row: &Row, point: &Point) -> bool
     ensures { result ≡ true → FailsAt rows.now.width (plain_rows rows.now.list) (plain_row row.now) point.now }
 {
     let w = point.w.as_slice();
-    if w.len() != row.coeffs.len() {
-        return false;
-    }
-    match value_at(row, point.t, w) {
+    match row.value_at(point.t, w) {
         Some(value) => value < 0 && is_point(rows, point.t, w),
         None => false,
     }

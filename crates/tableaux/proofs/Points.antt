@@ -1,6 +1,6 @@
 -- Points in numbers, and rows that hold there.
-use Rattle.std.proofs.Common.{◌≡◌, ℕ, zero, suc, ◌≤◌, ℤ, pos, negsuc, ◌+ℤ◌, ◌*ℤ◌, Option, None, Some, List, [], ◌∷◌, map, length, refl, subst, ◌∙◌, arith}
-use Rattle.std.specs.Prelude.{All, ◌≤ℤ◌, unsigned_abs, SomeIff, IfSome}
+use Rattle.std.proofs.Common.{◌≡◌, ℕ, zero, suc, ◌≤◌, ℤ, pos, negsuc, List, [], ◌∷◌, map, length, refl, subst, ◌∙◌, arith}
+use Rattle.std.specs.Prelude.{All, ◌≤ℤ◌, unsigned_abs}
 use Rattle.std.proofs.lemmas.Int.{ints}
 use Rattle.std.proofs.lemmas.List.{length-map}
 use Rattle.exact128.specs.Sums.{dot}
@@ -42,9 +42,3 @@ point_is n rows t w some long natural hold =
       long = length-map w unsigned_abs ∙ long;
       hold = subst (λ (point : List ℤ). All (λ (r : List ℤ). pos 0 ≤ℤ dot r point) (plain_rows rows)) (λ i. t_is i ∷ w_is i) (plain_hold (t ∷ w) rows hold);
     }
-
--- the value of a row, constant first
-pub value_is : (b t : ℤ) (cs w : List ℤ) (P : Type 0) (x y : ℤ) (o : Option ℤ) → SomeIff o P (x +ℤ y) → x ≡ b *ℤ t → y ≡ dot cs w → IfSome o (λ v. v ≡ dot (b ∷ cs) (t ∷ w))
-unfolding dot
-value_is b t cs w P x y None s ex ey = tt
-value_is b t cs w P x y (Some v) s ex ey = s.1 ∙ (λ i. ex i +ℤ ey i)

@@ -7,7 +7,6 @@ ghost use Rattle.linear_rows.specs.Rows.{IsPoint};
 ghost use Rattle.tableaux.specs.Finding.{Solves};
 
 use crate::tableau::{End, Tableau};
-use exact128::{plus, sum_of_products, times};
 use fourier::Solved;
 use linear_rows::{Multipliers, Numbers, Point, Proof, Row, Rows, proves};
 use std::alloc::{AllocError, Global};
@@ -89,19 +88,10 @@ fn holds_at(row: &Row, t: i128, w: &[i128]) -> bool
     requires { length w.now ≡ length row.now.coeffs }
     ensures { result ≡ true → pos 0 ≤ℤ dot (plain_row row.now) (t ∷ w.now) }
 {
-    match value_at(row, t, w) {
+    match row.value_at(t, w) {
         Some(value) => value >= 0,
         None => false,
     }
-}
-
-/// The value of a row at `w` over `t`, times `t`. None where a number that it is formed of does not fit.
-pub fn value_at(row: &Row, t: i128, w: &[i128]) -> Option<i128>
-    requires { length w.now ≡ length row.now.coeffs }
-    ensures { IfSome result (λ value. value ≡ dot (plain_row row.now) (t ∷ w.now)) }
-{
-    let products = sum_of_products(row.coeffs.as_slice(), w)?;
-    plus(times(row.constant, t)?, products)
 }
 
 /// The multipliers as a refutation, if `proves` says so.

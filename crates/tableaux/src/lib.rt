@@ -1,12 +1,12 @@
 //! Tableaux of linear rows over naturals, and what their pivots find.
 //!
 //! `found` answers a point of rows or multipliers that refute them, each tested, or nothing. `is_point` tests a point,
-//! `value_at` forms the value of a row there, and `most_pivots` says how many pivots a search may make. The crate depends
-//! on `exact128`, `linear_rows` and `fourier`, which has the type of what is found.
+//! and `most_pivots` says how many pivots a search may make. The crate depends on `exact128`, `linear_rows` and
+//! `fourier`, which has the type of what is found.
 #![tactic(auto)]
 
 mod divisors;
 mod finding;
 mod tableau;
 
-pub use finding::{are_natural, found, is_point, most_pivots, value_at};
+pub use finding::{are_natural, found, is_point, most_pivots};

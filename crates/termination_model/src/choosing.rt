@@ -1,7 +1,7 @@
-//! All sets of numbers up to a number.
+//! All sets of numbers up to a number, and whether a set is part of another.
 
 ghost use Rattle.std.specs.Prelude.{◌≡◌, ◌<◌, ◌+◌, ◌++◌, ◌∷◌, [], ◌^◌, IfOk, OnOk, map};
-ghost use Rattle.termination_model.specs.grounds.Modes.{chosen, chosen_up_to};
+ghost use Rattle.termination_model.specs.grounds.Modes.{chosen, chosen_up_to, is_part};
 
 use sequences::Sequence;
 use std::alloc::{AllocError, Global};
@@ -58,4 +58,16 @@ pub fn number_sets(alloc: Global, last: u32) -> Result<Sequence<Sequence<u32>>, 
         add_chosen(alloc, &mut sets, &mut numbers, count, 1, last)?;
     }
     Ok(sets)
+}
+
+/// Whether each number of the first list is in the second.
+pub fn is_part(xs: &[u32], ys: &[u32]) -> bool
+    ensures { result ≡ is_part xs.now ys.now }
+{
+    for x in xs {
+        if !ys.contains(x) {
+            return false;
+        }
+    }
+    true
 }

@@ -21,7 +21,7 @@ mod supports;
 mod systems;
 mod turns;
 
-pub use choosing::number_sets;
+pub use choosing::{is_part, number_sets};
 pub use descent::{a_query_is_bounded, proofs_show};
 pub use how::How;
 pub use replacing::{add_expressions, columns, replaced};

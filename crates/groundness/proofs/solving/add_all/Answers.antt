@@ -19,7 +19,7 @@ loop-init g c =
       inside = λ q row t. t;
       others = λ r off. refl;
       closed = λ j k at member off.
-          absurd (off (marked_member c.args.setting.now.program.now c.args.setting.now.comps.now c.requires.setting.components c.args.c c.members.result.now c.members.ensures c.args.setting.now.heads.now c.mark_members.new.marks c.in_ok-mark_members.ensures.marked
+          absurd (off (marked_member c.args.setting.now.program.now c.args.setting.now.comps.now c.requires.setting.components c.args.c c.members.result.now c.members.ensures c.args.setting.now.heads.now c.mark_members.new.self c.in_ok-mark_members.ensures.marked
           j k (c.requires.setting.heads.all j k at) member));
     }
 

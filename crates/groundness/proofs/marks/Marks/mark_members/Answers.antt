@@ -3,7 +3,7 @@ use Rattle.cti_terms.specs.declared.predicates.PredId.{PredId}
 use Rattle.groundness.specs.Marks.{HasUser, IsMarked}
 use Rattle.truth_rows.proofs.ListLaws.{up_to_more}
 use Rattle.termination_model.proofs.Lists.{place_below, there}
-use Rattle.groundness.proofs.solving.mark_members.Goals as goal
+use Rattle.groundness.proofs.marks.Marks.mark_members.Goals as goal
 
 pub mark_all-requires : goal.mark_all-requires
 mark_all-requires c = λ j h. omega (arith, c.requires _ j (subst (λ (xs : List ℕ). Contains xs j) c.of.ensures h), c.loop-member.invariant.each)
