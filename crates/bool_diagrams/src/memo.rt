@@ -71,7 +71,8 @@ impl Memo {
     /// The answer that was kept for a key, where it is not forgotten.
     pub(crate) fn answer(&mut self, key: Key) -> Option<u64>
         ensures kept { IfSome result (λ number. Contains self.old.answers.entries (key, number)) }
-        ensures within { (entry : Key × ℕ) → Contains self.new.answers.entries entry → Contains self.old.answers.entries entry }
+        ensures within { (entry : Key × ℕ) → Contains self.new.answers.entries entry
+            → Contains self.old.answers.entries entry }
     {
         self.answers.get(&key).copied()
     }

@@ -34,7 +34,11 @@ impl Model for Components {
 
     ghost view = { λ a. record { of = a.of.items; members = a.members; recursive = a.recursive.items } };
 
-    ghost invariant = { λ a. IsPartition (record { of = a.of.items; members = a.members; recursive = a.recursive.items }) };
+    ghost invariant = { λ a. IsPartition (record {
+      of = a.of.items;
+      members = a.members;
+      recursive = a.recursive.items;
+    }) };
 }
 
 impl Components {

@@ -47,7 +47,8 @@ pub fn resolution_is_a_function()
 
 /// Where a program's built-in predicates have no clauses, number 0 alone resolves a goal that begins with one of them.
 pub fn builtins_are_resolved_by_zero_alone()
-    ensures { (p : Listing) (a : Atom) (rest : List Atom) (n i : ℕ) (b : Builtin) → IsProgram p → kind_of p.arithmetic a.pred.0 ≡ Some b
+    ensures { (p : Listing) (a : Atom) (rest : List Atom) (n i : ℕ) (b : Builtin) → IsProgram p
+        → kind_of p.arithmetic a.pred.0 ≡ Some b
         → resolve p (record { atoms = a ∷ rest; fresh = n }) (suc i) ≡ None }
 {}
 
@@ -71,7 +72,9 @@ pub fn facts_are_bounded()
 /// The atoms' counters may be any, but that of the more general one is above its variables. A step by a built-in atom does
 /// not lift, since a more general atom may have no value.
 pub fn derivations_lift()
-    ensures { (p : Listing) (a b : Atom) (n m : ℕ) (ks : List ℕ) (h : Goal) → IsProgram p → AllByRecursion (λ (i : ℕ). 1 ≤ i) ks
+    ensures { (p : Listing) (a b : Atom) (n m : ℕ) (ks : List ℕ) (h : Goal) → IsProgram p
+        → AllByRecursion (λ (i : ℕ). 1 ≤ i) ks
         → IsMoreGeneral b a → IsGoalOf p (query b m) → left_after p (query a n) ks ≡ Some h
-        → (l : Goal) × (left_after p (query b m) ks ≡ Some l) × (s : ℕ → Tree) × (h.atoms ≡ map (over (instance s)) l.atoms) }
+        → (l : Goal) × (left_after p (query b m) ks ≡ Some l)
+        × (s : ℕ → Tree) × (h.atoms ≡ map (over (instance s)) l.atoms) }
 {}

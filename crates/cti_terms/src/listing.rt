@@ -42,9 +42,17 @@ impl Model for Program {
 
     ghost coded = { coded_listing };
 
-    ghost view = { λ p. record { preds = p.preds.keys; clauses = p.clauses.items; arithmetic = record { names = p.arith; builtins = p.builtins.items } } };
+    ghost view = { λ p. record {
+      preds = p.preds.keys;
+      clauses = p.clauses.items;
+      arithmetic = record { names = p.arith; builtins = p.builtins.items };
+    } };
 
-    ghost invariant = { λ p. IsProgram (record { preds = p.preds.keys; clauses = p.clauses.items; arithmetic = record { names = p.arith; builtins = p.builtins.items } }) };
+    ghost invariant = { λ p. IsProgram (record {
+      preds = p.preds.keys;
+      clauses = p.clauses.items;
+      arithmetic = record { names = p.arith; builtins = p.builtins.items };
+    }) };
 }
 
 /// The place of the predicate of this name and arity, which is found by its hash.
@@ -107,7 +115,8 @@ impl Program {
     /// The predicate of this name and arity, if it is there. It takes no memory.
     pub fn find(&self, name: Name, arity: u32) -> Option<PredId>
         ensures number { option_map (λ p. p.0) result ≡ position (is_pred name.0 arity) self.now.preds }
-        ensures found { IfSome result (λ p. slice_get self.now.preds p.0 ≡ Some (record { name = name; arity = arity })) }
+        ensures found { IfSome result (λ p. slice_get self.now.preds p.0
+            ≡ Some (record { name = name; arity = arity })) }
         ensures absent { IsNone result ↔ ¬ Contains self.now.preds (record { name = name; arity = arity }) }
     {
         let i = place(&self.preds, name, arity)?;
@@ -119,7 +128,8 @@ impl Program {
         requires small { arity ≤ MOST_ARGUMENTS }
         requires room { length self.old.preds < 2 ^ 32 - 1 }
         ensures number { IfOk result (λ p. p.0 ≡ position_or_len (is_pred name.0 arity) self.old.preds) }
-        ensures preds { OnOk result (self.new.preds ≡ with_pred self.old.preds (record { name = name; arity = arity })) }
+        ensures preds { OnOk result (self.new.preds
+            ≡ with_pred self.old.preds (record { name = name; arity = arity })) }
         ensures found { IfOk result (λ p. slice_get self.new.preds p.0 ≡ Some (record { name = name; arity = arity })) }
 
         // Earlier predicates keep their numbers, and out of memory, nothing is changed.
@@ -173,7 +183,8 @@ impl Program {
         requires room { length self.old.preds < 2 ^ 32 - 1 }
         ensures number { IfOk result (λ p. p.0 ≡ length self.old.preds) }
         ensures preds { OnOk result (self.new.preds ≡ self.old.preds ++ record { name = name; arity = 2 } ∷ []) }
-        ensures builtins { IfOk result (λ p. self.new.arithmetic.builtins ≡ self.old.arithmetic.builtins ++ (p, kind) ∷ []) }
+        ensures builtins { IfOk result (λ p. self.new.arithmetic.builtins
+            ≡ self.old.arithmetic.builtins ++ (p, kind) ∷ []) }
         ensures names { self.new.arithmetic.names ≡ self.old.arithmetic.names }
         ensures clauses { self.new.clauses ≡ self.old.clauses }
 

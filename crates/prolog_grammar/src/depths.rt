@@ -12,20 +12,26 @@ ghost use Rattle.prolog_grammar.specs.Run.{run};
 
 /// The machine reads each clause that the grammar reads without a token that is too deep, and no other.
 pub fn readings_within_depth()
-    ensures each { (infixes : ℕ → Option Infix) (prefixes : ℕ → Option Prefix) (comma limit : ℕ) (us rest : List Token) (t : Syntax) (p : ℕ)
-        → TermOf (syntax_rules infixes prefixes comma) us (End ∷ rest) 1200 t p → first_deep limit (clause_loads t) ≡ None
+    ensures each { (infixes : ℕ → Option Infix) (prefixes : ℕ → Option Prefix) (comma limit : ℕ)
+        (us rest : List Token) (t : Syntax) (p : ℕ)
+        → TermOf (syntax_rules infixes prefixes comma) us (End ∷ rest) 1200 t p
+        → first_deep limit (clause_loads t) ≡ None
         → run limit (syntax_rules infixes prefixes comma) start us ≡ Ok (t, rest) }
-    ensures only { (infixes : ℕ → Option Infix) (prefixes : ℕ → Option Prefix) (comma limit : ℕ) (us rest : List Token) (t : Syntax)
+    ensures only { (infixes : ℕ → Option Infix) (prefixes : ℕ → Option Prefix) (comma limit : ℕ)
+        (us rest : List Token) (t : Syntax)
         → run limit (syntax_rules infixes prefixes comma) start us ≡ Ok (t, rest)
-        → (p : ℕ) × TermOf (syntax_rules infixes prefixes comma) us (End ∷ rest) 1200 t p × (first_deep limit (clause_loads t) ≡ None) }
+        → (p : ℕ) × TermOf (syntax_rules infixes prefixes comma) us (End ∷ rest) 1200 t p
+        × (first_deep limit (clause_loads t) ≡ None) }
 {}
 
 /// It stops as too deep at the first token that is, where no token up to it is unexpected.
 pub fn first_too_deep()
     ensures found { (infixes : ℕ → Option Infix) (prefixes : ℕ → Option Prefix) (comma limit : ℕ) (us rest : List Token)
-        → run limit (syntax_rules infixes prefixes comma) start us ≡ Err (deep rest) → IsDeep limit (syntax_rules infixes prefixes comma) us rest }
+        → run limit (syntax_rules infixes prefixes comma) start us ≡ Err (deep rest)
+        → IsDeep limit (syntax_rules infixes prefixes comma) us rest }
     ensures each { (infixes : ℕ → Option Infix) (prefixes : ℕ → Option Prefix) (comma limit : ℕ) (us rest : List Token)
-        → IsDeep limit (syntax_rules infixes prefixes comma) us rest → run limit (syntax_rules infixes prefixes comma) start us ≡ Err (deep rest) }
+        → IsDeep limit (syntax_rules infixes prefixes comma) us rest
+        → run limit (syntax_rules infixes prefixes comma) start us ≡ Err (deep rest) }
 {}
 
 /// It stops as unexpected at the first token that is, where no token before it is too deep.

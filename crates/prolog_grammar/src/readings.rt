@@ -8,8 +8,10 @@ ghost use Rattle.prolog_grammar.specs.Machine.{go, start};
 
 /// The machine is complete and sound: it reads each clause that the grammar reads, and no other.
 pub fn readings_are_found<T>()
-    ensures each { (rules : Rules T) (us rest : List Token) (t : T) (p : ℕ) → TermOf rules us (End ∷ rest) 1200 t p → go rules start us ≡ Ok (t, rest) }
-    ensures only { (rules : Rules T) (us rest : List Token) (t : T) → go rules start us ≡ Ok (t, rest) → (p : ℕ) × TermOf rules us (End ∷ rest) 1200 t p }
+    ensures each { (rules : Rules T) (us rest : List Token) (t : T) (p : ℕ)
+        → TermOf rules us (End ∷ rest) 1200 t p → go rules start us ≡ Ok (t, rest) }
+    ensures only { (rules : Rules T) (us rest : List Token) (t : T) → go rules start us ≡ Ok (t, rest)
+        → (p : ℕ) × TermOf rules us (End ∷ rest) 1200 t p }
 {}
 
 /// The grammar is unambiguous: tokens begin with one clause at most, and it is read as one tree.

@@ -20,8 +20,11 @@ pub fn same_verdicts()
 
 /// Tokens have exactly one verdict: their first clause as a term, or its first fault. The machine that code follows gives it.
 pub fn one_verdict()
-    ensures found { (infixes : ℕ → Option Infix) (prefixes : ℕ → Option Prefix) (names : Known) (limit : ℕ) (us : List Token)
+    ensures found { (infixes : ℕ → Option Infix) (prefixes : ℕ → Option Prefix) (names : Known)
+        (limit : ℕ) (us : List Token)
         → IsVerdict limit infixes prefixes names us (walk limit (placed_rules limit infixes prefixes names) start us) }
-    ensures one { (infixes : ℕ → Option Infix) (prefixes : ℕ → Option Prefix) (names : Known) (limit : ℕ) (us : List Token) (v : Verdict Part)
-        → IsVerdict limit infixes prefixes names us v → walk limit (placed_rules limit infixes prefixes names) start us ≡ v }
+    ensures one { (infixes : ℕ → Option Infix) (prefixes : ℕ → Option Prefix) (names : Known)
+        (limit : ℕ) (us : List Token) (v : Verdict Part)
+        → IsVerdict limit infixes prefixes names us v
+        → walk limit (placed_rules limit infixes prefixes names) start us ≡ v }
 {}

@@ -33,7 +33,8 @@ pub fn decode(text: &[u8], token: Token, out: &mut Vec<u8>) -> Result<(), AllocE
 /// Appends the characters of the item after its opening quote.
 fn decode_item(bytes: &[u8], quote: u8, out: &mut Vec<u8>) -> Result<(), AllocError>
     ensures ok { OnOk result (out.new.items ≡ out.old.items ++ encode_utf8_all (item_characters quote 0 bytes.now)) }
-    ensures err { OnErr result (AppendsPrefix out.old.items (encode_utf8_all (item_characters quote 0 bytes.now)) out.new.items) }
+    ensures err { OnErr result (AppendsPrefix out.old.items
+        (encode_utf8_all (item_characters quote 0 bytes.now)) out.new.items) }
 {
     let mut at = 0;
     'pieces: loop {
@@ -50,6 +51,8 @@ fn decode_item(bytes: &[u8], quote: u8, out: &mut Vec<u8>) -> Result<(), AllocEr
 
 /// An item in quotes is decoded to the characters that its body spells by the forms of tokens.
 pub fn items_are_decoded()
-    ensures quoted { (bytes after : List ℕ) (item : IsItem 39 bytes after) → meaning_of TokenKind.Quoted bytes ≡ encode_utf8_all item.characters }
-    ensures text { (bytes after : List ℕ) (item : IsItem 34 bytes after) → meaning_of TokenKind.Text bytes ≡ encode_utf8_all item.characters }
+    ensures quoted { (bytes after : List ℕ) (item : IsItem 39 bytes after)
+        → meaning_of TokenKind.Quoted bytes ≡ encode_utf8_all item.characters }
+    ensures text { (bytes after : List ℕ) (item : IsItem 34 bytes after)
+        → meaning_of TokenKind.Text bytes ≡ encode_utf8_all item.characters }
 {}

@@ -56,7 +56,8 @@ impl<'a> Lexer<'a> {
         ensures after { self.new ≡ record { text = self.old.text; at = place_after self.old result } }
 
         // Each token takes at least one byte, and ends within the text.
-        ensures progress { IfOk result (λ t. IfSome t (λ t. (self.old.at ≤ t.start) × (t.start < t.end) × (t.end ≤ length self.old.text))) }
+        ensures progress { IfOk result (λ t. IfSome t (λ t. (self.old.at ≤ t.start) × (t.start < t.end)
+            × (t.end ≤ length self.old.text))) }
     {
         let start = match gap_len(&self.text[self.at..]) {
             Ok(len) => self.at + len,
@@ -145,6 +146,7 @@ fn mark(byte: u8) -> Result<(TokenKind, usize), LexFault>
 pub fn longest_match()
     ensures next { (c : Cursor) → c.at ≤ length c.text → IsNext c (next_of c) }
     ensures none { (c : Cursor) → c.at ≤ length c.text → IsGap (drop c.at c.text) [] → next_of c ≡ Ok None }
-    ensures only { (c : Cursor) (t : NextToken) → c.at ≤ length c.text → IsNextToken c t → ((fault : Fault) → HasFault c fault → ⊥) → next_of c ≡ Ok (Some t) }
+    ensures only { (c : Cursor) (t : NextToken) → c.at ≤ length c.text → IsNextToken c t
+        → ((fault : Fault) → HasFault c fault → ⊥) → next_of c ≡ Ok (Some t) }
     ensures faults { (c : Cursor) (fault : Fault) → c.at ≤ length c.text → HasFault c fault → next_of c ≡ Err fault }
 {}

@@ -90,7 +90,9 @@ fn digit(value: u8) -> u8
 /// What `quote` spells is read back, in any text, where no letter, digit, underscore or single quote follows: for a name in
 /// UTF-8 the next token is the whole spelling, and it stands for the name. The name `[]` is read back as its two tokens.
 pub fn quoted_names_are_read_back()
-    ensures name { (c : Cursor) (name after : List ℕ) → IsUtf8 name → is_empty_list name ≡ false → lengthens_name after ≡ false
+    ensures name { (c : Cursor) (name after : List ℕ) → IsUtf8 name → is_empty_list name ≡ false
+        → lengthens_name after ≡ false
         → drop c.at c.text ≡ spelling name ++ after → IsReadBack c name }
-    ensures empty_list { (c : Cursor) (after : List ℕ) → drop c.at c.text ≡ spelling (91 ∷ 93 ∷ []) ++ after → IsListReadBack c }
+    ensures empty_list { (c : Cursor) (after : List ℕ) → drop c.at c.text ≡ spelling (91 ∷ 93 ∷ []) ++ after
+        → IsListReadBack c }
 {}
