@@ -1,7 +1,7 @@
 #!/usr/bin/env bash
 # Times `cti loop` where it looks at many derivations, or copies much, outside the gate: 100,000 of a ring of arguments that grow, 100,000 of a transitive
 # closure of a graph in twelve layers, the 556 ways to append lists to a list, goals with an atom of 20,001 arguments' worth of terms, and
-# 100,000 derivations of a program of 16,000 clauses, each of which it tries; the last of them as far as the search goes.
+# 100,000 derivations of a program of 16,000 clauses; the last of them as far as the search goes.
 # Usage: bench/loop.sh [PROGRAM]     (PROGRAM is bin/cti where none is named)
 set -eu
 cd "$(dirname "$0")/.."

@@ -67,7 +67,7 @@ fn loop_of(alloc: Global, numbers: &[u32], start: usize) -> Result<Looked, Alloc
 /// and at no more than the first 100,000 of them.
 ///
 /// Fails where there is no memory, where a goal that is made has more than 100,000 nodes or 4,000 levels of terms, and
-/// where the search has gone over 100,000,000 nodes or tried 1,000,000,000 clauses.
+/// where the search has gone over 100,000,000 nodes or unified 1,000,000,000 heads.
 ///
 /// Source: derivations that come back to a more general atom, as in Payet and Mesnard 2006.
 pub fn find(alloc: Global, program: &Program, goal: &Goal, depth: u32) -> Result<Looked, AllocError>

@@ -5,12 +5,12 @@ use std::alloc::AllocError;
 /// The most derivations that are looked at.
 pub const MOST_DERIVATIONS: u64 = 100_000;
 
-/// The most nodes of terms that one search copies and compares, with the heads that it unifies, which takes some seconds.
-/// A search that needs more is out of memory.
+/// The most nodes of terms that one search copies and compares, which takes some seconds. A search that needs more is out
+/// of memory.
 pub const MOST_WORK: u64 = 100_000_000;
 
-/// The most clauses that one search tries, each as often as it tries it, which takes some seconds. A search that needs
-/// more is out of memory.
+/// The most heads that one search unifies, each as often as it does, which takes some seconds. A search that needs more
+/// is out of memory.
 pub const MOST_TRIES: u64 = 1_000_000_000;
 
 /// The most nodes of a goal's terms. A goal with more is out of memory.

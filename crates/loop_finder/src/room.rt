@@ -4,7 +4,7 @@ use crate::limits::{MOST_GOAL_NODES, MOST_TRIES, MOST_WORK, take_one};
 use std::alloc::AllocError;
 
 /// How many nodes of terms a search may still go over, how many of them the goal may have that is being made, and how
-/// many clauses it may still try.
+/// many heads it may still unify.
 #[derive(Drop)]
 pub struct Room {
     search: u64,
@@ -33,13 +33,12 @@ impl Room {
         take_one(&mut self.search)
     }
 
-    /// Takes one clause that is tried. Where there is no room for it, it is out of memory.
+    /// Takes one head that is unified. Where there is no room for it, it is out of memory.
     pub fn try_one(&mut self) -> Result<(), AllocError> {
         take_one(&mut self.tries)
     }
 
-    /// Takes one node of terms that are compared, or one head that is unified. Where there is no room for it, it is out
-    /// of memory.
+    /// Takes one node of terms that are compared. Where there is no room for it, it is out of memory.
     pub fn compare_one(&mut self) -> Result<(), AllocError> {
         take_one(&mut self.search)
     }

@@ -30,7 +30,7 @@ fn left_by_clause<'p>(
     if atom.pred.0 != clause.head.pred.0 {
         return Ok(None);
     }
-    room.compare_one()?;
+    room.try_one()?;
     let mut bindings = Bindings::new(alloc);
     let mut stacks = Stacks::new(alloc);
     if !unify_head(&mut bindings, &mut stacks, atom, 0, fresh, clause)? {
@@ -64,7 +64,6 @@ pub fn left_by_step(
     requires below { AtomsBelow goal.now.fresh goal.now.atoms }
     ensures { IfOk result (λ o. o ≡ option_map (λ r. r.1) (resolve program.now goal.now number)) }
 {
-    room.try_one()?;
     let atoms = goal.atoms.as_slice();
     if atoms.is_empty() {
         return Ok(None);
