@@ -1,12 +1,12 @@
 //! Worked rows: both ways of solving, and the test of a row.
 
-ghost use Rattle.std.specs.Prelude.{◌≡◌};
+ghost use Rattle.std.specs.Prelude.{◌≡◌, length};
 ghost use Rattle.linear_rows.specs.Plain.{HaveWidth};
 
 use crate::given::{add, crowd, row, rows};
 use fourier::{ElimFault, Solved};
-use linear_rows::Rows;
-use simplex::{Basis, Held, holds, holds_from};
+use linear_rows::{Row, Rows};
+use simplex::{Basis, Held, Implied, holds, implied};
 use std::alloc::Global;
 
 /// What solving says.
@@ -150,35 +150,63 @@ fn tests_of_rows(rt: HostRuntime) {
     }
 }
 
-/// Whether this is what the test by a basis says of a row where each of two variables is at least 1, the second at most twice the
-/// first, and the last of the rows holds.
-fn is_held_from(
+/// Whether a row is said to be implied, or None where nothing is proved.
+fn said_of(said: Implied) -> Option<bool> {
+    match said {
+        Implied::Yes => Some(true),
+        Implied::No(_) => Some(false),
+        Implied::Unsure(_) => None,
+        Implied::Open => None,
+    }
+}
+
+/// Whether this is what a search says of a row, or a second one where the first, from the basis of other rows, finds nothing.
+fn is_implied(
+    alloc: Global,
+    given: &Rows,
+    target: &Row,
+    basis: &mut Basis,
+    want: bool,
+) -> Option<bool>
+    requires given { HaveWidth given.now.width given.now.list }
+    requires target { length target.now.coeffs ≡ given.now.width }
+{
+    let first = said_of(implied(alloc, given, target, basis).ok()?);
+    let said = match first {
+        Some(said) => said,
+        None => said_of(implied(alloc, given, target, basis).ok()?)?,
+    };
+    Some(said == want)
+}
+
+/// Whether this is said of a row where each of two variables is at least 1, the second at most twice the first, and the last
+/// of the rows holds.
+fn is_implied_from(
     alloc: Global,
     last: &[i128],
     numbers: &[i128],
     basis: &mut Basis,
-    want: Option<bool>,
+    want: bool,
 ) -> Option<bool> {
     let given = rows(alloc, 2, &[&[-1, 1, 0], &[-1, 0, 1], &[0, 2, -1], last])?;
     let target = row(alloc, 2, numbers)?;
-    let held = holds_from(alloc, &given, &target, basis).ok()?;
-    Some(answer_of(held) == want)
+    is_implied(alloc, &given, &target, basis, want)
 }
 
-/// Last rows, tested rows, and what the tests say. The second half begins with a basis of other rows.
-const TESTS_FROM_A_BASIS: [([i128; 3], [i128; 3], Option<bool>); 12] = [
-    ([6, -1, -1], [-2, 1, 1], Some(true)),
-    ([6, -1, -1], [-3, 1, 1], Some(false)),
-    ([6, -1, -1], [5, -1, 0], Some(true)),
-    ([6, -1, -1], [4, -1, 0], Some(false)),
-    ([6, -1, -1], [4, 0, -1], Some(true)),
-    ([6, -1, -1], [3, 0, -1], Some(false)),
-    ([6, -1, -1], [i128::MIN, 0, 1], None),
-    ([3, 1, -1], [4, 0, -1], Some(false)),
-    ([3, 1, -1], [4, 1, -1], Some(true)),
-    ([3, 1, -1], [2, 1, -1], Some(false)),
-    ([-3, -1, -1], [-9, 1, 1], Some(true)),
-    ([-3, -1, -1], [-1, 0, 0], Some(true)),
+/// Last rows, tested rows, and whether they are implied. The second half begins with a basis of other rows.
+const TESTS_FROM_A_BASIS: [([i128; 3], [i128; 3], bool); 12] = [
+    ([6, -1, -1], [-2, 1, 1], true),
+    ([6, -1, -1], [-3, 1, 1], false),
+    ([6, -1, -1], [5, -1, 0], true),
+    ([6, -1, -1], [4, -1, 0], false),
+    ([6, -1, -1], [4, 0, -1], true),
+    ([6, -1, -1], [3, 0, -1], false),
+    ([6, -1, -1], [i128::MIN, 0, 1], false),
+    ([3, 1, -1], [4, 0, -1], false),
+    ([3, 1, -1], [4, 1, -1], true),
+    ([3, 1, -1], [2, 1, -1], false),
+    ([-3, -1, -1], [-9, 1, 1], true),
+    ([-3, -1, -1], [-1, 0, 0], true),
 ];
 
 /// The last row bounds both variables or only their difference.
@@ -187,7 +215,45 @@ fn tests_from_a_basis(rt: HostRuntime) {
     let mut basis = Basis::new(rt.alloc(), 2, None).expect(&rt, "memory");
     for (last, numbers, want) in &TESTS_FROM_A_BASIS {
         assert!(rt;
-            is_held_from(rt.alloc(), last, numbers, &mut basis, *want) == Some(true),
+            is_implied_from(rt.alloc(), last, numbers, &mut basis, *want) == Some(true),
+            "{numbers:?}"
+        );
+    }
+}
+
+/// About 2^90, 2^89 and 2^80.
+const GREAT: i128 = 1_237_940_039_285_380_274_899_124_224;
+
+const HALF: i128 = 618_970_019_642_690_137_449_562_112;
+
+const LESS: i128 = 1_208_925_819_614_629_174_706_176;
+
+/// Whether this is said of a row where the first variable is a little above the second, and that above the third. The
+/// multipliers and the points have more than 128 bits.
+fn is_implied_by_great(alloc: Global, numbers: &[i128], want: bool) -> Option<bool> {
+    let given = rows(
+        alloc,
+        3,
+        &[&[0, GREAT, -GREAT - 1, 0], &[0, 0, HALF + 3, -HALF - 5]],
+    )?;
+    let target = row(alloc, 3, numbers)?;
+    let mut basis = Basis::new(alloc, 3, None).ok()?;
+    is_implied(alloc, &given, &target, &mut basis, want)
+}
+
+/// Tested rows, and whether they are implied.
+const TESTS_OF_GREAT: [([i128; 4], bool); 4] = [
+    ([0, 1, 0, -1], true),
+    ([0, GREAT, 0, -GREAT - 1], true),
+    ([0, LESS, 0, -LESS - 1], false),
+    ([-1, 1, 0, -1], false),
+];
+
+#[test]
+fn tests_of_great_numbers(rt: HostRuntime) {
+    for (numbers, want) in &TESTS_OF_GREAT {
+        assert!(rt;
+            is_implied_by_great(rt.alloc(), numbers, *want) == Some(true),
             "{numbers:?}"
         );
     }

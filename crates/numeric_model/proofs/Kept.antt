@@ -21,7 +21,7 @@ use Rattle.termination_model.specs.claims.Claims.{SomeOf}
 use Rattle.numeric_model.specs.declared.filled.Filled.{Filled}
 use Rattle.numeric_model.specs.declared.filled.Filled.TheVariants.{Bottom, Unknown, Inhabited}
 use Rattle.numeric_model.specs.Filling.{IsFilled, weight}
-use Rattle.redundant_rows.proofs.Sweeps.{scaled_holds}
+use Rattle.simplex.proofs.Holding.{scaled_holds}
 use Rattle.simplex.proofs.RowLists.{length-zeros}
 
 -- ---- points

@@ -1,6 +1,6 @@
 -- Rows with one row less.
-use Rattle.std.proofs.Common.{◌≡◌, ℕ, zero, suc, ◌<◌, ◌≤◌, ℤ, pos, ◌⊎◌, inl, inr, List, [], ◌∷◌, ◌++◌, take, drop, length, refl, ap, sym, subst, arith}
-use Rattle.std.specs.Prelude.{All, slice_index_or}
+use Rattle.std.proofs.Common.{◌≡◌, ℕ, zero, suc, ◌<◌, ◌≤◌, ℤ, ◌⊎◌, inl, inr, List, [], ◌∷◌, ◌++◌, take, drop, length, refl, ap, sym, subst, arith}
+use Rattle.std.specs.Prelude.{slice_index_or}
 use Rattle.linear_rows.specs.Members.{In}
 use Rattle.linear_rows.specs.Rows.{Holds, AllHold, HoldsOn}
 use Rattle.linear_rows.specs.Irredundant.{without_place, IsIrredundant}
@@ -8,18 +8,11 @@ use Rattle.linear_rows.proofs.Members.{from_All, to_All}
 use Rattle.termination_model.specs.chains.ChainRows.{HasSublist}
 use Rattle.redundant_rows.specs.Choosing.{IsCore}
 use Rattle.redundant_rows.specs.Sweeping.{IsNeeded, IsSwept, IsLess}
-use Rattle.std.specs.Prelude.{◌≤ℤ◌, slice_get}
-use Rattle.std.proofs.Common.{negsuc, Some}
-use Rattle.std.proofs.lemmas.Int.{ints}
+use Rattle.std.specs.Prelude.{slice_get}
+use Rattle.std.proofs.Common.{Some}
 use Rattle.std.proofs.lemmas.List.{length-map}
 use Rattle.linear_rows.specs.Plain.{plain_row, plain_rows}
-use Rattle.linear_rows.specs.Proves.{Proves}
 use Rattle.linear_rows.specs.declared.row.Row.{Row}
-use Rattle.linear_rows.specs.declared.multipliers.Multipliers.{Multipliers}
-use Rattle.linear_rows.proofs.Soundness.{law_holds, law_empty}
-use Rattle.linear_rows.specs.Irredundant.{Fails}
-use Rattle.linear_rows.specs.declared.point.Point.{Point}
-use Rattle.linear_rows.specs.Showing.{Shows, FailsAt}
 
 -- ---- sublists
 pub part_self : (xs : List (List ℤ)) → HasSublist xs xs
@@ -108,18 +101,7 @@ put_back i [] r e = cc
 put_back zero (x ∷ rows) r e = let same : x ≡ r = cc in λ j. sym same j ∷ rows
 put_back (suc i) (x ∷ rows) r e = ap (λ l. x ∷ l) (put_back i rows r e)
 
--- ---- what a test shows
-pub scaled_holds : (rows : List (List ℤ)) (ms target : List ℤ) (d : ℤ) → pos 0 ≤ℤ d → All (λ m. pos 0 ≤ℤ m) ms → Proves rows ms target d → HoldsOn (length target) rows target
-scaled_holds rows ms target (pos zero) nd nm p = λ t w some long all. absurd (law_empty rows ms target nm p t w some long all)
-scaled_holds rows ms target (pos (suc d)) nd nm p = law_holds rows ms target d nm p
-scaled_holds rows ms target (negsuc d) nd nm p = absurd (omega (arith, ints))
-
-pub yes_holds : (n : ℕ) (rows : List (List ℤ)) (row : List ℤ) (by : Multipliers) → length row ≡ suc n → Shows rows row by → HoldsOn (suc n) rows row
-yes_holds n rows row by long h = subst (λ (k : ℕ). HoldsOn k rows row) long (scaled_holds rows by.list row by.scale h.multipliers.scale h.multipliers.naturals h.shown.proves)
-
-pub no_fails : (n : ℕ) (rows : List (List ℤ)) (row : List ℤ) (p : Point) → FailsAt n rows row p → Fails n rows row
-no_fails n rows row p h = record { t = h.t; w = h.w; some = h.some; long = h.long; hold = h.hold; fails = h.fails }
-
+-- ---- fewer rows
 pub fewer_rows : (i : ℕ) (rows new : List Row) → i < length rows → plain_rows new ≡ without_place i (plain_rows rows) → suc (length new) ≡ length rows
 fewer_rows i rows new l e =
     let a = length-map rows plain_row in

@@ -5,14 +5,15 @@ ghost use Rattle.exact128.specs.Fits.{fits};
 ghost use Rattle.linear_rows.specs.Blown.{all_of};
 ghost use Rattle.linear_rows.specs.Plain.{plain_row, plain_rows, HaveWidth};
 ghost use Rattle.linear_rows.specs.Showing.{AreMultipliers, Shows, FailsAt};
-ghost use Rattle.simplex.specs.Telling.{Tells};
+ghost use Rattle.simplex.specs.Telling.{SaysHolds, Tells};
+ghost use Rattle.redundant_rows.specs.Sweeping.{Decides};
 
 use crate::appending::{push_alone, push_zeros};
 use crate::multiple::{is_natural, multiple};
 use crate::points::copied;
 use exact128::fits;
 use linear_rows::{Multipliers, Numbers, Point, Proof, Row, Rows, proves};
-use simplex::{Basis, Held, fails_at, holds, holds_from};
+use simplex::{Basis, Held, Implied, fails_at, holds, implied};
 use std::alloc::{AllocError, Global};
 
 /// Tests whether a row holds wherever rows hold, without solving where one row shows it or it fails at the origin.
@@ -30,20 +31,53 @@ pub fn tested(alloc: Global, rows: &Rows, row: &Row) -> Result<Held, AllocError>
     }
 }
 
-/// Tests a row, of which none of the rows is known to show it alone, beginning with the basis of the last test.
-pub(crate) fn tested_from(
+/// Says whether rows imply a row that none of them is known to show alone, beginning with the basis of the last test.
+pub(crate) fn implied_from(
     alloc: Global,
     rows: &Rows,
     row: &Row,
     basis: &mut Basis,
-) -> Result<Held, AllocError>
+) -> Result<Implied, AllocError>
     requires rows { HaveWidth rows.now.width rows.now.list }
     requires row { length row.now.coeffs ≡ rows.now.width }
-    ensures { IfOk result (Tells rows.now.width (plain_rows rows.now.list) (plain_row row.now)) }
+    ensures { IfOk result (SaysHolds rows.now.width (plain_rows rows.now.list) (plain_row row.now)) }
 {
     match failing_at_origin(alloc, rows, row)? {
-        Some(point) => Ok(Held::No(point)),
-        None => holds_from(alloc, rows, row, basis),
+        Some(point) => Ok(Implied::No(point)),
+        None => implied(alloc, rows, row, basis),
+    }
+}
+
+/// Decides whether a row holds on rows: by what is said of it, or by solving where that proves nothing.
+pub(crate) fn decided(
+    alloc: Global,
+    rows: &Rows,
+    row: &Row,
+    said: Implied,
+) -> Result<bool, AllocError>
+    requires rows { HaveWidth rows.now.width rows.now.list }
+    requires row { length row.now.coeffs ≡ rows.now.width }
+    requires said { SaysHolds rows.now.width (plain_rows rows.now.list) (plain_row row.now) said }
+    ensures { IfOk result (Decides rows.now.width (plain_rows rows.now.list) (plain_row row.now)) }
+{
+    match said {
+        Implied::Yes => Ok(true),
+        Implied::No(_) => Ok(false),
+        Implied::Unsure(_) => is_held(alloc, rows, row),
+        Implied::Open => is_held(alloc, rows, row),
+    }
+}
+
+/// Whether solving says that a row holds on rows.
+fn is_held(alloc: Global, rows: &Rows, row: &Row) -> Result<bool, AllocError>
+    requires rows { HaveWidth rows.now.width rows.now.list }
+    requires row { length row.now.coeffs ≡ rows.now.width }
+    ensures { IfOk result (Decides rows.now.width (plain_rows rows.now.list) (plain_row row.now)) }
+{
+    match holds(alloc, rows, row)? {
+        Held::Yes(_) => Ok(true),
+        Held::No(_) => Ok(false),
+        Held::Blown => Ok(false),
     }
 }
 
@@ -67,7 +101,7 @@ pub fn tested_at(
 }
 
 /// A copy of a point, if the rows hold there and the row fails.
-pub(crate) fn failing_at(
+fn failing_at(
     alloc: Global,
     rows: &Rows,
     row: &Row,

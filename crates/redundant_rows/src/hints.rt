@@ -2,15 +2,17 @@
 
 ghost use Rattle.std.specs.Prelude.{◌≡◌, ◌≢◌, length, IfOk, slice_get, Some, true, false};
 ghost use Rattle.linear_rows.specs.Plain.{plain_row, plain_rows, HaveWidth};
-ghost use Rattle.simplex.specs.Telling.{Tells};
+ghost use Rattle.linear_rows.specs.Irredundant.{Fails};
+ghost use Rattle.redundant_rows.specs.Sweeping.{Decides};
+ghost use Rattle.simplex.specs.Telling.{SaysHolds};
 
-use crate::at_once::{failing_at, tested_from};
+use crate::at_once::{decided, implied_from};
 use crate::beside::failing_beside;
 use crate::mark::Mark;
-use crate::points::copied_if_known;
+use crate::points::{copied_if_known, shortened};
 use crate::shooting::{Facet, first_met};
 use linear_rows::{Point, Row, Rows};
-use simplex::{Basis, Held};
+use simplex::{Basis, Implied, fails_at};
 use std::alloc::{AllocError, Global};
 
 /// A point inside of the rows, the basis of the last test, and for each row a point at which it alone fails, as far as
@@ -50,14 +52,20 @@ impl Hints {
     }
 
     /// Tests a row on rows of which each is one of those of the last test, or comes after them.
-    pub(crate) fn test(&mut self, alloc: Global, rows: &Rows, row: &Row) -> Result<Held, AllocError>
+    pub(crate) fn test(
+        &mut self,
+        alloc: Global,
+        rows: &Rows,
+        row: &Row,
+    ) -> Result<Implied, AllocError>
         requires rows { HaveWidth rows.now.width rows.now.list }
         requires row { length row.now.coeffs ≡ rows.now.width }
-        ensures { IfOk result (Tells rows.now.width (plain_rows rows.now.list) (plain_row row.now)) }
+        ensures { IfOk result
+            (SaysHolds rows.now.width (plain_rows rows.now.list) (plain_row row.now)) }
     {
         match failing_beside(alloc, rows, row, &self.inside)? {
-            Some(point) => Ok(Held::No(point)),
-            None => tested_from(alloc, rows, row, &mut self.basis),
+            Some(point) => Ok(Implied::No(point)),
+            None => implied_from(alloc, rows, row, &mut self.basis),
         }
     }
 
@@ -74,7 +82,8 @@ impl Hints {
         requires waiting { slice_get marks.now place ≡ Some Mark.Waiting }
         ensures { IfOk result (λ next. slice_get marks.now next ≡ Some Mark.Waiting) }
     {
-        let Some(facet) = shot(alloc, rows, marks, &self.inside, outside)? else {
+        let outside = shortened(alloc, outside)?;
+        let Some(facet) = shot(alloc, rows, marks, &self.inside, &outside)? else {
             return Ok(place);
         };
         let next = facet.place;
@@ -112,29 +121,41 @@ impl Hints {
         }
     }
 
-    /// Tests the row at a place on the others.
-    pub(crate) fn test_apart(
+    /// Decides whether the row at a place holds on the others.
+    pub(crate) fn holds_apart(
         &self,
         alloc: Global,
         others: &Rows,
         row: &Row,
         place: usize,
-    ) -> Result<Held, AllocError>
+    ) -> Result<bool, AllocError>
         requires rows { HaveWidth others.now.width others.now.list }
         requires row { length row.now.coeffs ≡ others.now.width }
         ensures { IfOk result
-            (Tells others.now.width (plain_rows others.now.list) (plain_row row.now)) }
+            (Decides others.now.width (plain_rows others.now.list) (plain_row row.now)) }
     {
-        if let Some(Some(witness)) = self.witnesses.get(place) {
-            if let Some(point) = failing_at(alloc, others, row, witness)? {
-                return Ok(Held::No(point));
-            }
+        if self.fails_apart(others, row, place) {
+            return Ok(false);
         }
-        if let Some(point) = failing_beside(alloc, others, row, &self.inside)? {
-            return Ok(Held::No(point));
+        if let Some(_) = failing_beside(alloc, others, row, &self.inside)? {
+            return Ok(false);
         }
         let mut basis = fresh_basis(alloc, others.width, &self.inside)?;
-        tested_from(alloc, others, row, &mut basis)
+        let said = implied_from(alloc, others, row, &mut basis)?;
+        decided(alloc, others, row, said)
+    }
+
+    /// Whether a point is known at which the row at a place alone fails.
+    fn fails_apart(&self, others: &Rows, row: &Row, place: usize) -> bool
+        requires rows { HaveWidth others.now.width others.now.list }
+        requires row { length row.now.coeffs ≡ others.now.width }
+        ensures { result ≡ true
+            → Fails others.now.width (plain_rows others.now.list) (plain_row row.now) }
+    {
+        match self.witnesses.get(place) {
+            Some(Some(witness)) => fails_at(others, row, witness),
+            _ => false,
+        }
     }
 }
 

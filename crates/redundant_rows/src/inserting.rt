@@ -8,11 +8,16 @@ ghost use Rattle.redundant_rows.specs.Sweeping.{IsLess};
 
 use crate::hints::{Hints, is_waiting};
 use crate::mark::Mark;
+use crate::points::bits_above;
 use linear_rows::{Row, Rows};
-use simplex::Held;
+use simplex::Implied;
 use std::alloc::{AllocError, Global};
 
-/// The rows without those that rows before them imply, where rows with fewer coefficients other than 0 come first.
+/// Rows of numbers of so few bits come first: those that others imply most often have greater ones.
+const BITS: [u32; 5] = [24, 32, 48, 64, 128];
+
+/// The rows without those that rows before them imply, where rows with fewer coefficients other than 0 come first, and of
+/// them those of smaller numbers.
 ///
 /// Those that are left stand in the order of `rows`, and what `hints` has of them in the same order.
 pub(crate) fn inserted(alloc: Global, rows: &Rows, hints: &mut Hints) -> Result<Rows, AllocError>
@@ -22,14 +27,24 @@ pub(crate) fn inserted(alloc: Global, rows: &Rows, hints: &mut Hints) -> Result<
     ensures less { IfOk result
         (λ r. IsLess rows.now.width (plain_rows rows.now.list) (plain_rows r.list)) }
 {
-    let most = rows.width as usize;
     let mut insertion = nothing_inserted(alloc, rows)?;
-    for count in 0..most {
-        insertion = insert_sparse(alloc, rows, insertion, hints, count)?;
+    for coefficients in 0..rows.width as usize + 1 {
+        insertion = insert_sparse(alloc, rows, insertion, hints, coefficients)?;
     }
-    insertion = insert_sparse(alloc, rows, insertion, hints, most)?;
+    let all = Reach {
+        coefficients: rows.width as usize,
+        bits: 128,
+    };
+    insertion = insert_within(alloc, rows, insertion, hints, all)?;
     hints.leave(insertion.marks.as_slice());
     kept_rows(alloc, rows, insertion.marks.as_slice())
+}
+
+// Which rows are inserted: those with at most so many coefficients other than 0, and numbers of at most so many bits.
+#[derive(Clone, Copy)]
+struct Reach {
+    coefficients: usize,
+    bits: u32,
 }
 
 // What is known of each row, and the rows that were inserted.
@@ -56,55 +71,92 @@ fn insert_sparse(
     rows: &Rows,
     insertion: Insertion,
     hints: &mut Hints,
-    most: usize,
+    coefficients: usize,
+) -> Result<Insertion, AllocError>
+    requires width { HaveWidth rows.now.width rows.now.list }
+    requires insertion { IsInsertion rows.now.width rows.now.list insertion.marks.items insertion.kept }
+    ensures { IfOk result (λ i. IsInsertion rows.now.width rows.now.list i.marks.items i.kept) }
+{
+    let mut insertion = insertion;
+    for bits in &BITS {
+        let reach = Reach {
+            coefficients,
+            bits: *bits,
+        };
+        insertion = insert_within(alloc, rows, insertion, hints, reach)?;
+    }
+    Ok(insertion)
+}
+
+/// Inserts the waiting rows within a reach.
+fn insert_within(
+    alloc: Global,
+    rows: &Rows,
+    insertion: Insertion,
+    hints: &mut Hints,
+    reach: Reach,
 ) -> Result<Insertion, AllocError>
     requires width { HaveWidth rows.now.width rows.now.list }
     requires insertion { IsInsertion rows.now.width rows.now.list insertion.marks.items insertion.kept }
     ensures insertion { IfOk result
         (λ i. IsInsertion rows.now.width rows.now.list i.marks.items i.kept) }
-    ensures known { IfOk result (λ i. most ≡ rows.now.width
+    ensures known { IfOk result (λ i. reach.coefficients ≡ rows.now.width → reach.bits ≡ 128
         → AreKnown i.marks.items (length rows.now.list)) }
 {
     let mut insertion = insertion;
     for place in 0..rows.list.len() {
-        insertion = insert_due(alloc, rows, insertion, hints, place, most)?;
+        insertion = insert_due(alloc, rows, insertion, hints, place, reach)?;
     }
     Ok(insertion)
 }
 
-/// Inserts a row, if it waits and has at most the given number of coefficients other than 0.
+/// Inserts a row, if it waits and is within a reach.
 fn insert_due(
     alloc: Global,
     rows: &Rows,
     insertion: Insertion,
     hints: &mut Hints,
     place: usize,
-    most: usize,
+    reach: Reach,
 ) -> Result<Insertion, AllocError>
     requires place { place < length rows.now.list }
     requires width { HaveWidth rows.now.width rows.now.list }
     requires insertion { IsInsertion rows.now.width rows.now.list insertion.marks.items insertion.kept }
     ensures insertion { IfOk result
         (λ i. IsInsertion rows.now.width rows.now.list i.marks.items i.kept) }
-    ensures known { IfOk result (λ i. most ≡ rows.now.width → AreKnown insertion.marks.items place
-        → AreKnown i.marks.items (place + 1)) }
+    ensures known { IfOk result (λ i. reach.coefficients ≡ rows.now.width → reach.bits ≡ 128
+        → AreKnown insertion.marks.items place → AreKnown i.marks.items (place + 1)) }
 {
-    if is_due(insertion.marks[place], rows.list.get(place), most) {
+    if reach.has_due(insertion.marks[place], rows.list.get(place)) {
         return insert(alloc, rows, insertion, hints, place);
     }
     Ok(insertion)
 }
 
-/// Whether a row waits and has at most the given number of coefficients other than 0.
-fn is_due(mark: Mark, row: &Row, most: usize) -> bool
-    ensures waiting { result ≡ true → mark ≡ Mark.Waiting }
-    ensures due { most ≡ length row.now.coeffs → result ≡ false → mark ≢ Mark.Waiting }
-{
-    match mark {
-        Mark::Waiting => nonzeros(row) <= most,
-        Mark::Kept => false,
-        Mark::Implied => false,
+impl Reach {
+    /// Whether a row waits and is within this reach.
+    fn has_due(self, mark: Mark, row: &Row) -> bool
+        ensures waiting { result ≡ true → mark ≡ Mark.Waiting }
+        ensures due { self.coefficients ≡ length row.now.coeffs → self.bits ≡ 128
+            → result ≡ false → mark ≢ Mark.Waiting }
+    {
+        match mark {
+            Mark::Waiting => nonzeros(row) <= self.coefficients && bits(row) <= self.bits,
+            Mark::Kept => false,
+            Mark::Implied => false,
+        }
     }
+}
+
+/// How many bits the greatest of a row's numbers has.
+fn bits(row: &Row) -> u32
+    ensures { result ≤ 128 }
+{
+    let mut sizes = row.constant.unsigned_abs();
+    for number in row.coeffs.as_slice() {
+        sizes |= number.unsigned_abs();
+    }
+    bits_above(sizes, 0)
 }
 
 /// How many coefficients of a row are not 0.
@@ -186,17 +238,14 @@ fn next_of(
         (IsNext rows.now.width rows.now.list insertion.now.marks.items insertion.now.kept place) }
 {
     let row = rows.list.get(place);
-    match hints.test(alloc, &insertion.kept, row)? {
-        Held::Yes(_) => Ok(None),
-        Held::No(point) => Ok(Some(hints.next(
-            alloc,
-            rows,
-            insertion.marks.as_slice(),
-            place,
-            &point,
-        )?)),
-        Held::Blown => Ok(Some(place)),
-    }
+    let outside = match hints.test(alloc, &insertion.kept, row)? {
+        Implied::Yes => return Ok(None),
+        Implied::No(point) => point,
+        Implied::Unsure(point) => point,
+        Implied::Open => return Ok(Some(place)),
+    };
+    let marks = insertion.marks.as_slice();
+    Ok(Some(hints.next(alloc, rows, marks, place, &outside)?))
 }
 
 /// Marks a waiting row that the rows that were inserted imply.

@@ -2,7 +2,7 @@
 //!
 //! A point inside is a hint: rows are tested before anybody relies on it.
 
-ghost use Rattle.std.specs.Prelude.{◌≡◌, IfOk};
+ghost use Rattle.std.specs.Prelude.{◌≡◌, ◌<◌, IfOk};
 
 use exact128::{plus, times};
 use linear_rows::{Numbers, Point, Row, System};
@@ -24,6 +24,36 @@ pub fn copied_if_known(alloc: Global, point: &Option<Point>) -> Result<Option<Po
         Some(point) => Ok(Some(copied(alloc, point)?)),
         None => Ok(None),
     }
+}
+
+/// The most bits of the numbers of a point from which or to which one goes.
+const MOST_BITS: u32 = 60;
+
+/// A point near another one, of numbers that are small enough for sums of products.
+pub(crate) fn shortened(alloc: Global, point: &Point) -> Result<Point, AllocError> {
+    let mut sizes = point.t.unsigned_abs();
+    for number in point.w.as_slice() {
+        sizes |= number.unsigned_abs();
+    }
+    let places = bits_above(sizes, MOST_BITS);
+    let mut w = Numbers::new(alloc);
+    for number in point.w.as_slice() {
+        w.push(*number >> places)?;
+    }
+    Ok(Point {
+        t: (point.t >> places).max(1),
+        w,
+    })
+}
+
+/// How many bits a number has more than these.
+pub(crate) fn bits_above(number: u128, most: u32) -> u32
+    ensures { result < 128 }
+{
+    u128::BITS
+        .saturating_sub(number.leading_zeros())
+        .saturating_sub(most)
+        .min(127)
 }
 
 /// How often each of two points is taken.

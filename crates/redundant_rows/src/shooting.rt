@@ -6,11 +6,14 @@
 ghost use Rattle.std.specs.Prelude.{◌≡◌, length};
 
 use crate::mark::Mark;
-use crate::points::{Weights, copied, weighed};
-use exact128::{gcd, minus, plus, quotient};
+use crate::points::{Weights, bits_above, copied, weighed};
+use exact128::{minus, plus};
 use exact256::{Integer, is_less_product};
 use linear_rows::{Point, Row, Rows};
 use std::alloc::{AllocError, Global};
+
+/// The most bits of the numbers that say how often points are taken.
+const WEIGHT_BITS: u32 = 40;
 
 /// A row that is met alone, and a point at which it alone fails, where one is known.
 #[derive(Drop)]
@@ -19,7 +22,7 @@ pub(crate) struct Facet {
     pub(crate) witness: Option<Point>,
 }
 
-/// The row that is met alone before all others that are not implied, on the way to a point outside.
+/// The waiting row that is met alone before all others, on the way to a point outside at which the kept rows hold.
 pub(crate) fn first_met(
     alloc: Global,
     rows: &Rows,
@@ -72,10 +75,10 @@ fn half_way(first: Met, second: Met) -> Option<Weights> {
     if inside < 1 || outside < 1 {
         return None;
     }
-    let part = gcd(inside.unsigned_abs(), outside.unsigned_abs());
+    let places = bits_above(inside.max(outside).unsigned_abs(), WEIGHT_BITS);
     Some(Weights {
-        first: quotient(inside, part),
-        second: quotient(outside, part),
+        first: inside >> places,
+        second: outside >> places,
     })
 }
 
@@ -137,13 +140,18 @@ impl Way {
         }
     }
 
-    /// These, and a row, if it is met. None where it is met at the point inside, or a number does not fit.
+    /// These, and a row, if it is met. None where it is met at the point inside. A row is passed over where a number does not
+    /// fit: one that is needed most often has small numbers.
     fn past(self, place: usize, row: &Row, inside: &Point, outside: &Point) -> Option<Way> {
-        let value = row.value_at(outside.t, outside.w.as_slice())?;
+        let Some(value) = row.value_at(outside.t, outside.w.as_slice()) else {
+            return Some(self);
+        };
         if value >= 0 {
             return Some(self);
         }
-        let near = row.value_at(inside.t, inside.w.as_slice())?;
+        let Some(near) = row.value_at(inside.t, inside.w.as_slice()) else {
+            return Some(self);
+        };
         if near < 1 {
             return None;
         }
@@ -152,7 +160,8 @@ impl Way {
     }
 }
 
-/// The rows that are met first and second, of those that are not known as implied.
+/// The rows that are met first and second, of those that wait. None of those that were kept is met before the point outside,
+/// but for what it was shortened.
 fn walked(rows: &Rows, marks: &[Mark], inside: &Point, outside: &Point) -> Option<Way>
     requires marks { length marks.now ≡ length rows.now.list }
 {
@@ -161,18 +170,18 @@ fn walked(rows: &Rows, marks: &[Mark], inside: &Point, outside: &Point) -> Optio
         second: None,
     };
     for place in 0..rows.list.len() {
-        if may_be_needed(marks[place]) {
+        if waits(marks[place]) {
             way = way.past(place, rows.list.get(place), inside, outside)?;
         }
     }
     Some(way)
 }
 
-/// Whether a row is not known as implied.
-fn may_be_needed(mark: Mark) -> bool {
+/// Whether a row waits.
+fn waits(mark: Mark) -> bool {
     match mark {
         Mark::Waiting => true,
-        Mark::Kept => true,
+        Mark::Kept => false,
         Mark::Implied => false,
     }
 }

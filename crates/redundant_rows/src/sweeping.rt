@@ -9,7 +9,6 @@ ghost use Rattle.termination_model.specs.chains.ChainRows.{HasSublist};
 
 use crate::hints::Hints;
 use linear_rows::{Row, RowList, Rows};
-use simplex::Held;
 use std::alloc::{AllocError, Global};
 
 // Rows without one, and that one.
@@ -77,20 +76,16 @@ fn try_row(alloc: Global, rows: Rows, place: usize, hints: &Hints) -> Result<Swe
         × IsImplied rows.width (plain_rows rows.list) place) }
 {
     let parted = part(rows, place);
-    match hints.test_apart(alloc, &parted.others, &parted.row, place)? {
-        Held::Yes(_) => Ok(Swept {
+    if hints.holds_apart(alloc, &parted.others, &parted.row, place)? {
+        return Ok(Swept {
             rows: parted.others,
             fewer: true,
-        }),
-        Held::No(_) => Ok(Swept {
-            rows: put(parted.others, place, parted.row)?,
-            fewer: false,
-        }),
-        Held::Blown => Ok(Swept {
-            rows: put(parted.others, place, parted.row)?,
-            fewer: false,
-        }),
+        });
     }
+    Ok(Swept {
+        rows: put(parted.others, place, parted.row)?,
+        fewer: false,
+    })
 }
 
 /// Takes each row out that holds on the others that are left.

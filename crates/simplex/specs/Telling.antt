@@ -2,27 +2,45 @@
 -- What the test of a row shows.
 --
 -- To believe: `Tells`, over the words of linear_rows.
-use Rattle.std.specs.Prelude.{◌≡◌, ◌+◌, ℕ, ℤ, true, false, List, Option, None, Some}
+use Rattle.std.specs.Prelude.{◌≡◌, ◌+◌, ◌≤◌, ℕ, suc, ℤ, pos, true, false, List, ◌∷◌, map, length, Option, None, Some}
 use Rattle.exact128.specs.Fits.{fits}
 use Rattle.linear_rows.specs.declared.row.Row.{Row}
 use Rattle.linear_rows.specs.declared.row.Rows.{Rows}
 use Rattle.linear_rows.specs.Blown.{all_of}
 use Rattle.linear_rows.specs.Plain.{plain_row, plain_rows, HaveWidth}
 use Rattle.linear_rows.specs.Systems.{opposite, test_rows}
-use Rattle.linear_rows.specs.Irredundant.{TestIsBlown, EndsBlown}
+use Rattle.linear_rows.specs.Irredundant.{TestIsBlown, EndsBlown, Fails}
+use Rattle.linear_rows.specs.Rows.{HoldsOn}
 use Rattle.linear_rows.specs.Solving.Solution.{Refuted}
 use Rattle.linear_rows.specs.declared.multipliers.Multipliers.{Multipliers}
 use Rattle.linear_rows.specs.Showing.{Shows, FailsAt}
 use Rattle.fourier.specs.declared.solved.Solved.{Solved}
 use Rattle.fourier.specs.declared.solved.Solved.TheVariants.{Point, Refuted as RefutedBy}
 use Rattle.simplex.specs.declared.held.Held.{Held}
-use Rattle.simplex.specs.declared.held.Held.TheVariants.{Yes, No, Blown}
+use Rattle.simplex.specs.declared.held.Held.TheVariants.{Yes as HeldYes, No as HeldNo, Blown}
+use Rattle.simplex.specs.declared.implication.Implied.{Implied}
+use Rattle.simplex.specs.declared.implication.Implied.TheVariants.{Yes, No, Unsure, Open}
 
 -- a test of a row on rows of n coefficients each
 abbrev pub Tells : ℕ → List (List ℤ) → List ℤ → Held → Type 0
-Tells n rows row (Yes by) = Shows rows row by
-Tells n rows row (No p) = FailsAt n rows row p
+Tells n rows row (HeldYes by) = Shows rows row by
+Tells n rows row (HeldNo p) = FailsAt n rows row p
 Tells n rows row Blown = TestIsBlown n rows row
+
+-- what a search in the cone of rows of n coefficients each says of a row
+abbrev pub SaysHolds : ℕ → List (List ℤ) → List ℤ → Implied → Type 0
+SaysHolds n rows row Yes = HoldsOn (suc n) rows row
+SaysHolds n rows row (No p) = Fails n rows row
+SaysHolds n rows row (Unsure p) = Unit {0}
+SaysHolds n rows row Open = Unit {0}
+
+-- a t of at least 1, and n naturals
+pub record IsWidePoint (n : ℕ) (numbers : List ℤ) : Type 0 where
+  pub t : ℕ
+  pub w : List ℕ
+  pub numbers_are : numbers ≡ pos t ∷ map pos w
+  pub some : 1 ≤ t
+  pub long : length w ≡ n
 
 -- multipliers that refute the rows of a test show the row, or meet a number that does not fit
 abbrev pub ShowsIfFits : List (List ℤ) → List ℤ → List ℤ → Option Multipliers → Type 0

@@ -47,6 +47,8 @@ pub struct Basis {
     coordinates: Vec<Integer>,
     // A point of the rows, as far as one is known.
     inside: Option<Point>,
+    // The place of the row from which on the rows are gone over next.
+    pub(crate) next: usize,
 }
 
 impl Drop for Basis {
@@ -58,6 +60,7 @@ impl Drop for Basis {
             members: _,
             coordinates: _,
             inside: _,
+            next: _,
         } = self;
     }
 }
@@ -72,6 +75,7 @@ impl Basis {
             members: Vec::new(alloc),
             coordinates: Vec::new(alloc),
             inside,
+            next: 0,
         })
     }
 

@@ -11,11 +11,13 @@ ghost use Rattle.std.specs.Prelude.{◌≡◌, length};
 ghost use Rattle.linear_rows.specs.Plain.{HaveWidth};
 
 use crate::basis::{Basis, Member};
-use crate::held::Held;
-use crate::integers::{product, quotient, shared_by};
-use exact128::{plus, times};
-use exact256::{Integer, is_less_product};
-use linear_rows::{Multipliers, Numbers, Point, Row, Rows};
+use crate::integers::{lowered, most_bits, product, shared_by, spell};
+use crate::pricing::Prices;
+use crate::wide_multipliers::WideMultipliers;
+use crate::wide_point::WidePoint;
+use exact128::plus;
+use exact256::{Divisor, Integer, is_less_product, sum_of_products};
+use linear_rows::{Numbers, Point, Row, Rows};
 use std::alloc::{AllocError, Global};
 use tableaux::{is_point, most_pivots};
 
@@ -33,29 +35,42 @@ enum End {
     Open,
 }
 
+/// The most bits of the numbers of a point that is said to be near.
+const NEAR_BITS: u32 = 60;
+
+/// What a search finds of a row. None of it has been tested.
+#[derive(Drop)]
+pub enum Found {
+    /// Multipliers of the rows that show it.
+    Multipliers(WideMultipliers),
+    /// A point of the rows at which it fails.
+    Outside(Outside),
+    /// Neither: the pivots are spent, or a number does not fit.
+    Nothing,
+}
+
+/// A point of rows, and one near it of small numbers.
+#[derive(Drop)]
+pub struct Outside {
+    pub near: Point,
+    pub whole: WidePoint,
+}
+
 /// What a search finds of a row, without a test.
 pub fn searched(
     alloc: Global,
     rows: &Rows,
     row: &Row,
     basis: &mut Basis,
-) -> Result<Option<Held>, AllocError>
+) -> Result<Found, AllocError>
     requires width { HaveWidth rows.now.width rows.now.list }
     requires row { length row.now.coeffs ≡ rows.now.width }
 {
     basis.begin(alloc)?;
     match run(alloc, rows, row, basis)? {
-        End::Inside => Ok(yes(multipliers(alloc, rows, basis, basis.determinant())?)),
+        End::Inside => multipliers(alloc, rows, basis, basis.determinant()),
         End::Outside(place) => failing(alloc, rows, row, basis, place),
-        End::Open => Ok(None),
-    }
-}
-
-/// The answer that a row holds, if multipliers are found.
-fn yes(by: Option<Multipliers>) -> Option<Held> {
-    match by {
-        Some(by) => Some(Held::Yes(by)),
-        None => None,
+        End::Open => Ok(Found::Nothing),
     }
 }
 
@@ -65,20 +80,38 @@ fn run(alloc: Global, rows: &Rows, row: &Row, basis: &mut Basis) -> Result<End, 
         return Ok(End::Open);
     };
     let target = spelt(alloc, row)?;
-    let mut numbers = Vec::with_capacity(alloc, target.len())?;
-    pivots(rows, basis, target.as_slice(), &mut numbers, most)
+    let mut desk = Desk {
+        numbers: Vec::with_capacity(alloc, target.len())?,
+        prices: Prices::new(alloc, target.len())?,
+    };
+    pivots(rows, basis, target.as_slice(), &mut desk, most)
 }
 
-/// The same for the numbers of a row. `numbers` is room for those of another one.
+/// Room for the numbers of a row, and for prices.
+struct Desk {
+    numbers: Vec<i128>,
+    prices: Prices,
+}
+
+impl Drop for Desk {
+    fn drop(self) {
+        let Desk {
+            numbers: _,
+            prices: _,
+        } = self;
+    }
+}
+
+/// The same for the numbers of a row.
 fn pivots(
     rows: &Rows,
     basis: &mut Basis,
     target: &[i128],
-    numbers: &mut Vec<i128>,
+    desk: &mut Desk,
     most: usize,
 ) -> Result<End, AllocError> {
     for count in 0..most {
-        if let Some(end) = pivot(rows, basis, target, numbers, count >= EARLY_PIVOTS)? {
+        if let Some(end) = pivot(rows, basis, target, desk, count >= EARLY_PIVOTS)? {
             return Ok(end);
         }
     }
@@ -90,7 +123,7 @@ fn pivot(
     rows: &Rows,
     basis: &mut Basis,
     target: &[i128],
-    numbers: &mut Vec<i128>,
+    desk: &mut Desk,
     is_late: bool,
 ) -> Result<Option<End>, AllocError> {
     if !basis.measure(target) {
@@ -99,10 +132,10 @@ fn pivot(
     let Some(place) = leaving(basis, is_late) else {
         return Ok(Some(End::Inside));
     };
-    let Some(member) = entering(rows, basis.inverse_row(place), numbers, is_late)? else {
+    let Some(member) = entering(rows, basis, place, desk, is_late)? else {
         return Ok(Some(End::Outside(place)));
     };
-    if enter(rows, basis, numbers, place, member)? {
+    if enter(rows, basis, &mut desk.numbers, place, member)? {
         Ok(None)
     } else {
         Ok(Some(End::Open))
@@ -147,9 +180,47 @@ impl Candidate {
     }
 }
 
+/// The member that enters a place, if one has a product below 0 with its row of the inverse.
+fn entering(
+    rows: &Rows,
+    basis: &mut Basis,
+    place: usize,
+    desk: &mut Desk,
+    is_late: bool,
+) -> Result<Option<Member>, AllocError> {
+    if !is_late && let Some(at) = priced(rows, basis, place, desk)? {
+        return Ok(Some(Member::Row(at)));
+    }
+    least(rows, basis.inverse_row(place), &mut desk.numbers, is_late)
+}
+
+/// The place of a row that is found by its price. Its product is seen to be below 0.
+fn priced(
+    rows: &Rows,
+    basis: &mut Basis,
+    place: usize,
+    desk: &mut Desk,
+) -> Result<Option<usize>, AllocError> {
+    desk.prices.shorten(basis.inverse_row(place));
+    let Some(at) = desk.prices.cheapest(rows, basis.next) else {
+        return Ok(None);
+    };
+    if at >= rows.list.len() {
+        return Ok(None);
+    }
+    spell(&mut desk.numbers, rows.list.get(at))?;
+    match product(basis.inverse_row(place), desk.numbers.as_slice()) {
+        Some(value) if value.is_negative() => {
+            basis.next = at.saturating_add(1);
+            Ok(Some(at))
+        }
+        _ => Ok(None),
+    }
+}
+
 /// The member whose product with a row of the inverse, over its greatest number, is least, or the first one with a product
 /// below 0, if there is one.
-fn entering(
+fn least(
     rows: &Rows,
     y: &[Integer],
     numbers: &mut Vec<i128>,
@@ -223,69 +294,63 @@ fn enter(
     Ok(basis.pivot(place, member))
 }
 
-/// The multipliers of the rows for the row that was measured last, with this scale before they are divided by what they
-/// share.
+/// The multipliers of the rows for the row that was measured last, with this scale.
 fn multipliers(
     alloc: Global,
     rows: &Rows,
     basis: &Basis,
     scale: Integer,
-) -> Result<Option<Multipliers>, AllocError> {
-    let mut list = vec![in alloc; 0; rows.list.len()]?;
-    let shared = shared_of(basis, scale);
-    if !put_multipliers(&mut list, basis, shared) {
-        return Ok(None);
-    }
-    match quotient(scale, shared) {
-        Some(scale) => Ok(Some(Multipliers {
-            scale,
-            list: Numbers::from_vec(list),
-        })),
-        None => Ok(None),
-    }
+) -> Result<Found, AllocError> {
+    let mut list = vec![in alloc; Integer::ZERO; rows.list.len()]?;
+    put_multipliers(&mut list, basis);
+    Ok(Found::Multipliers(WideMultipliers { scale, list }))
 }
 
-/// What the coordinates of rows share, and a scale with them.
-fn shared_of(basis: &Basis, scale: Integer) -> Integer {
-    let mut shared = scale;
-    for place in 0..basis.columns() {
-        if let Member::Row(_) = basis.member(place) {
-            shared = shared_by(shared, basis.coordinate(place));
-        }
-    }
-    shared
-}
-
-/// Puts the coordinates of rows, divided by what they share, to the places of these rows. It answers whether they fit.
-fn put_multipliers(list: &mut Vec<i128>, basis: &Basis, shared: Integer) -> bool {
+/// Puts the coordinates of rows to the places of these rows.
+fn put_multipliers(list: &mut Vec<Integer>, basis: &Basis) {
     for place in 0..basis.columns() {
         if let Member::Row(at) = basis.member(place)
             && at < list.len()
         {
-            match quotient(basis.coordinate(place), shared) {
-                Some(number) => list[at] = number,
-                None => return false,
-            }
+            list[at] = basis.coordinate(place);
         }
     }
-    true
 }
 
-/// The numbers of a row, divided by what they share, as a point, whose t may be 0.
-fn way(alloc: Global, numbers: &[Integer]) -> Result<Option<Point>, AllocError> {
+/// Numbers divided by what they share, if one is not 0.
+fn reduced(alloc: Global, numbers: &[Integer]) -> Result<Option<Vec<Integer>>, AllocError> {
     let mut shared = Integer::ZERO;
     for number in numbers {
         shared = shared_by(shared, *number);
     }
-    parts(alloc, numbers, shared)
+    match Divisor::new(shared) {
+        Some(divisor) => parts(alloc, numbers, divisor),
+        None => Ok(None),
+    }
 }
 
-/// Numbers divided by a common divisor, as a point.
-fn parts(alloc: Global, numbers: &[Integer], shared: Integer) -> Result<Option<Point>, AllocError> {
+/// Numbers divided by a common divisor.
+fn parts(
+    alloc: Global,
+    numbers: &[Integer],
+    divisor: Divisor,
+) -> Result<Option<Vec<Integer>>, AllocError> {
+    let mut list = Vec::with_capacity(alloc, numbers.len())?;
+    for number in numbers {
+        match divisor.crossed_quotient(*number, Integer::ONE, Integer::ZERO, Integer::ZERO) {
+            Some(part) => list.push(part)?,
+            None => return Ok(None),
+        }
+    }
+    Ok(Some(list))
+}
+
+/// The point of these numbers, if each has at most 127 bits.
+fn narrowed(alloc: Global, numbers: &[Integer]) -> Result<Option<Point>, AllocError> {
     let mut t = 0;
     let mut w = Vec::with_capacity(alloc, numbers.len())?;
     for column in 0..numbers.len() {
-        match quotient(numbers[column], shared) {
+        match numbers[column].narrowed() {
             Some(number) if column == 0 => t = number,
             Some(number) => w.push(number)?,
             None => return Ok(None),
@@ -297,51 +362,101 @@ fn parts(alloc: Global, numbers: &[Integer], shared: Integer) -> Result<Option<P
     }))
 }
 
-/// What a row of the inverse with a product below 0 with the tested row says: a point, or multipliers that show that the
-/// rows hold nowhere.
+/// What a row of the inverse with a product below 0 with the tested row says: it is a point, or a way to one.
 fn failing(
     alloc: Global,
     rows: &Rows,
     row: &Row,
     basis: &mut Basis,
     place: usize,
-) -> Result<Option<Held>, AllocError>
+) -> Result<Found, AllocError>
     requires width { HaveWidth rows.now.width rows.now.list }
     requires row { length row.now.coeffs ≡ rows.now.width }
 {
-    let Some(way) = way(alloc, basis.inverse_row(place))? else {
-        return Ok(None);
-    };
-    if way.t != 0 {
-        return Ok(Some(Held::No(way)));
+    let numbers = basis.inverse_row(place);
+    if let Some(t) = numbers.first()
+        && !t.is_zero()
+    {
+        let whole = Vec::from_slice(alloc, numbers)?;
+        return at_point(alloc, whole);
     }
-    match find_inside(alloc, rows, basis)? {
-        Some(by) => Ok(Some(Held::Yes(by))),
-        None => along(alloc, row, basis.inside(), &way),
+    match reduced(alloc, numbers)? {
+        Some(way) => far_along(alloc, rows, row, basis, way.as_slice()),
+        None => Ok(Found::Nothing),
     }
 }
 
-/// Finds a point of the rows, if none is known, or multipliers that show that there is none.
-fn find_inside(
+/// What says that a row fails at the point of these numbers.
+fn at_point(alloc: Global, numbers: Vec<Integer>) -> Result<Found, AllocError> {
+    let near = near(alloc, numbers.as_slice())?;
+    Ok(Found::Outside(Outside {
+        near,
+        whole: WidePoint { numbers },
+    }))
+}
+
+/// A point near that of these numbers.
+fn near(alloc: Global, numbers: &[Integer]) -> Result<Point, AllocError> {
+    let places = most_bits(numbers).saturating_sub(NEAR_BITS);
+    let mut t = 1;
+    let mut w = Vec::with_capacity(alloc, numbers.len())?;
+    for column in 0..numbers.len() {
+        let number = lowered(numbers[column], places);
+        if column == 0 {
+            t = number.max(1);
+        } else {
+            w.push(number)?;
+        }
+    }
+    Ok(Point {
+        t,
+        w: Numbers::from_vec(w),
+    })
+}
+
+/// A point far along a way, or multipliers that show that the rows hold nowhere.
+fn far_along(
     alloc: Global,
     rows: &Rows,
+    row: &Row,
     basis: &mut Basis,
-) -> Result<Option<Multipliers>, AllocError>
+    way: &[Integer],
+) -> Result<Found, AllocError>
+    requires width { HaveWidth rows.now.width rows.now.list }
+{
+    if !is_inside(rows, basis) {
+        match run_for_bottom(alloc, rows, basis)? {
+            End::Inside => return multipliers(alloc, rows, basis, Integer::ZERO),
+            End::Outside(place) => keep_inside(alloc, basis, place)?,
+            End::Open => return Ok(Found::Nothing),
+        }
+    }
+    let Some(from) = basis.inside() else {
+        return Ok(Found::Nothing);
+    };
+    match along(alloc, row, from, way)? {
+        Some(whole) => at_point(alloc, whole),
+        None => Ok(Found::Nothing),
+    }
+}
+
+/// Keeps the point of a row of the inverse, if it fits.
+fn keep_inside(alloc: Global, basis: &mut Basis, place: usize) -> Result<(), AllocError> {
+    let point = match reduced(alloc, basis.inverse_row(place))? {
+        Some(numbers) => narrowed(alloc, numbers.as_slice())?,
+        None => None,
+    };
+    basis.keep_inside(point);
+    Ok(())
+}
+
+/// Whether a point of the rows is known.
+fn is_inside(rows: &Rows, basis: &Basis) -> bool
     requires { HaveWidth rows.now.width rows.now.list }
 {
-    if let Some(point) = basis.inside()
-        && is_point(rows, point.t, point.w.as_slice())
-    {
-        return Ok(None);
-    }
-    match run_for_bottom(alloc, rows, basis)? {
-        End::Inside => multipliers(alloc, rows, basis, Integer::ZERO),
-        End::Outside(place) => {
-            let point = way(alloc, basis.inverse_row(place))?;
-            basis.keep_inside(point);
-            Ok(None)
-        }
-        End::Open => Ok(None),
+    match basis.inside() {
+        Some(point) => is_point(rows, point.t, point.w.as_slice()),
+        None => false,
     }
 }
 
@@ -351,43 +466,58 @@ fn run_for_bottom(alloc: Global, rows: &Rows, basis: &mut Basis) -> Result<End, 
     run(alloc, rows, &bottom, basis)
 }
 
-/// The answer that a row fails so far from a point along a way, if the numbers fit.
+/// The numbers of the point so far along a way from another one that a row fails, if they fit.
 fn along(
     alloc: Global,
     row: &Row,
-    from: Option<&Point>,
-    way: &Point,
-) -> Result<Option<Held>, AllocError> {
-    let Some(from) = from else {
+    from: &Point,
+    way: &[Integer],
+) -> Result<Option<Vec<Integer>>, AllocError> {
+    let Some(steps) = steps(alloc, row, from, way)? else {
         return Ok(None);
     };
-    let Some(steps) = steps(row, from, way) else {
-        return Ok(None);
-    };
-    let mut w = Vec::with_capacity(alloc, way.w.len())?;
-    for k in 0..way.w.len() {
-        let Some(far) = times(steps, way.w.entry(k)) else {
-            return Ok(None);
-        };
-        let Some(number) = plus(from.w.entry(k), far) else {
-            return Ok(None);
-        };
-        w.push(number)?;
+    let mut numbers = Vec::with_capacity(alloc, way.len())?;
+    for column in 0..way.len() {
+        let start = number_of(from, column);
+        match sum_of_products(&[way[column], Integer::new(start)], &[steps, 1]) {
+            Some(number) => numbers.push(number)?,
+            None => return Ok(None),
+        }
     }
-    Ok(Some(Held::No(Point {
-        t: from.t,
-        w: Numbers::from_vec(w),
-    })))
+    Ok(Some(numbers))
+}
+
+/// A point's number in a column: t is the first.
+fn number_of(point: &Point, column: usize) -> i128 {
+    match column.checked_sub(1) {
+        Some(k) => point.w.entry(k),
+        None => point.t,
+    }
 }
 
 /// How often a way is to be gone from a point until a row fails.
-fn steps(row: &Row, from: &Point, way: &Point) -> Option<i128> {
-    let here = row.value_at(from.t, from.w.as_slice())?;
-    let fall = row.value_at(way.t, way.w.as_slice())?;
-    if here < 0 {
-        Some(0)
-    } else {
-        plus(here.checked_div(fall.checked_neg()?)?, 1)
+fn steps(
+    alloc: Global,
+    row: &Row,
+    from: &Point,
+    way: &[Integer],
+) -> Result<Option<i128>, AllocError> {
+    let numbers = spelt(alloc, row)?;
+    let fall = product(way, numbers.as_slice());
+    match (row.value_at(from.t, from.w.as_slice()), fall) {
+        (Some(here), Some(fall)) => Ok(steps_down(here, fall)),
+        _ => Ok(None),
+    }
+}
+
+/// How often a value changes by a number below 0 until it is below 0.
+fn steps_down(value: i128, fall: Integer) -> Option<i128> {
+    if value < 0 {
+        return Some(0);
+    }
+    match fall.narrowed() {
+        Some(fall) => plus(value.checked_div(fall.checked_neg()?)?, 1),
+        None => Some(1),
     }
 }
 
@@ -396,13 +526,6 @@ fn spelt(alloc: Global, row: &Row) -> Result<Vec<i128>, AllocError> {
     let mut numbers = Vec::with_capacity(alloc, row.coeffs.len().saturating_add(1))?;
     spell(&mut numbers, row)?;
     Ok(numbers)
-}
-
-/// Puts the numbers of a row, the constant first, in the place of others.
-fn spell(numbers: &mut Vec<i128>, row: &Row) -> Result<(), AllocError> {
-    numbers.truncate(0);
-    numbers.push(row.constant)?;
-    numbers.extend_from_slice(row.coeffs.as_slice())
 }
 
 /// The greatest absolute value of numbers, and at least 1.

@@ -8,13 +8,14 @@ ghost use Rattle.linear_rows.specs.Plain.{plain_row, plain_rows, HaveWidth};
 ghost use Rattle.linear_rows.specs.Systems.{test_rows};
 ghost use Rattle.linear_rows.specs.Proves.{Refutes};
 ghost use Rattle.fourier.specs.Solves.{Decides};
-ghost use Rattle.simplex.specs.Telling.{IsTest, Tells, TellsIfFits, ShowsIfFits};
+ghost use Rattle.simplex.specs.Telling.{IsTest, SaysHolds, Tells, TellsIfFits, ShowsIfFits};
 
 use crate::basis::Basis;
-use crate::cone::searched;
+use crate::cone::{Found, Outside, searched};
 use crate::held::Held;
-use crate::showing::{fails_at, shows};
+use crate::implication::Implied;
 use crate::systems::test_system;
+use crate::wide_multipliers::WideMultipliers;
 use fourier::Solved;
 use linear_rows::{Multipliers, Numbers, Point, Proof, Row, Rows, proves};
 use std::alloc::{AllocError, Global};
@@ -132,74 +133,65 @@ pub fn holds(alloc: Global, rows: &Rows, row: &Row) -> Result<Held, AllocError>
     }
 }
 
-/// What a search in the cone of the rows tells, if it finds something that stands its test.
-fn by_cone(
-    alloc: Global,
-    rows: &Rows,
-    row: &Row,
-    basis: &mut Basis,
-) -> Result<Option<Held>, AllocError>
-    requires width { HaveWidth rows.now.width rows.now.list }
-    requires row { length row.now.coeffs ≡ rows.now.width }
-    ensures { IfOk result (λ o. IfSome o
-        (Tells rows.now.width (plain_rows rows.now.list) (plain_row row.now))) }
-{
-    if rows.list.len() <= rows.width as usize {
-        return Ok(None);
-    }
-    let tested = match searched(alloc, rows, row, basis)? {
-        Some(held) => tested(rows, row, held),
-        None => None,
-    };
-    if tested.is_none() {
-        basis.reset();
-    }
-    Ok(tested)
-}
-
-/// What was found of a row, if it stands its test.
-fn tested(rows: &Rows, row: &Row, held: Held) -> Option<Held>
-    requires width { HaveWidth rows.now.width rows.now.list }
-    requires row { length row.now.coeffs ≡ rows.now.width }
-    ensures { IfSome result (Tells rows.now.width (plain_rows rows.now.list) (plain_row row.now)) }
-{
-    match held {
-        Held::Yes(by) => {
-            if shows(rows, row, &by) {
-                Some(Held::Yes(by))
-            } else {
-                None
-            }
-        }
-        Held::No(point) => {
-            if fails_at(rows, row, &point) {
-                Some(Held::No(point))
-            } else {
-                None
-            }
-        }
-        Held::Blown => None,
-    }
-}
-
-/// Tests whether a row holds wherever rows hold, as `holds` does, but begins at the basis where another test ended.
+/// Says whether rows imply a row, and begins at the basis where another search ended.
 ///
-/// Where the rows are at least as many as the columns, it first searches in the cone of the rows, and tests what it finds.
-/// The multipliers and the points may be others than those of `holds`.
-pub fn holds_from(
+/// What the search in the cone finds is tested in 512 bits. Where it finds nothing, it begins with the units the next time.
+pub fn implied(
     alloc: Global,
     rows: &Rows,
     row: &Row,
     basis: &mut Basis,
-) -> Result<Held, AllocError>
+) -> Result<Implied, AllocError>
     requires rows { HaveWidth rows.now.width rows.now.list }
     requires row { length row.now.coeffs ≡ rows.now.width }
 
-    // Yes with multipliers that show the row, No with a point at which it fails, and Blown only where its test is.
-    ensures { IfOk result (Tells rows.now.width (plain_rows rows.now.list) (plain_row row.now)) }
+    // After Yes the row holds on the rows, and after No it fails at a point of them.
+    ensures { IfOk result (SaysHolds rows.now.width (plain_rows rows.now.list) (plain_row row.now)) }
 {
-    match by_cone(alloc, rows, row, basis)? {
-        Some(held) => Ok(held),
-        None => holds(alloc, rows, row),
+    let says = match searched(alloc, rows, row, basis)? {
+        Found::Multipliers(by) => shown_by(alloc, rows, row, &by)?,
+        Found::Outside(outside) => said_outside(alloc, rows, row, outside)?,
+        Found::Nothing => Implied::Open,
+    };
+    if let Implied::Open = &says {
+        basis.reset();
+    }
+    Ok(says)
+}
+
+/// What multipliers say.
+fn shown_by(
+    alloc: Global,
+    rows: &Rows,
+    row: &Row,
+    by: &WideMultipliers,
+) -> Result<Implied, AllocError>
+    requires rows { HaveWidth rows.now.width rows.now.list }
+    requires row { length row.now.coeffs ≡ rows.now.width }
+    ensures { IfOk result (SaysHolds rows.now.width (plain_rows rows.now.list) (plain_row row.now)) }
+{
+    if by.show(alloc, rows, row)? {
+        Ok(Implied::Yes)
+    } else {
+        Ok(Implied::Open)
+    }
+}
+
+/// What a point says where the row was found to fail.
+fn said_outside(
+    alloc: Global,
+    rows: &Rows,
+    row: &Row,
+    outside: Outside,
+) -> Result<Implied, AllocError>
+    requires rows { HaveWidth rows.now.width rows.now.list }
+    requires row { length row.now.coeffs ≡ rows.now.width }
+    ensures { IfOk result (SaysHolds rows.now.width (plain_rows rows.now.list) (plain_row row.now)) }
+{
+    let Outside { near, whole } = outside;
+    if whole.refutes(alloc, rows, row)? {
+        Ok(Implied::No(near))
+    } else {
+        Ok(Implied::Unsure(near))
     }
 }

@@ -4,7 +4,7 @@ use Rattle.linear_rows.specs.Rows.{HoldsOn}
 use Rattle.simplex.specs.Telling.{Tells}
 use Rattle.simplex.specs.declared.held.Held.{Held}
 use Rattle.polyhedra.proofs.Cores.{bottom_empty}
-use Rattle.redundant_rows.proofs.Sweeps.{yes_holds}
+use Rattle.simplex.proofs.Holding.{yes_holds}
 use Rattle.polyhedra.proofs.emptiness.emptiness_of.Goals as goal
 
 pub returns-in-Yes : goal.returns-in-Yes

@@ -1,9 +1,5 @@
-use Rattle.std.proofs.Common.{◌≡◌}
-use Rattle.redundant_rows.specs.Inserting.{IsInsertion, AreKnown}
+use Rattle.redundant_rows.specs.Inserting.{IsInsertion}
 use Rattle.redundant_rows.proofs.inserting.insert_sparse.Given as goal
 
-abbrev pub invariant-loop-place : goal.invariant-loop-place
-invariant-loop-place l = record {
-  insertion : IsInsertion l.rows.width l.rows.list l.insertion.marks.items l.insertion.kept;
-  known : l.most ≡ l.rows.width → AreKnown l.insertion.marks.items l.place;
-}
+abbrev pub invariant-loop-bits : goal.invariant-loop-bits
+invariant-loop-bits l = IsInsertion l.rows.width l.rows.list l.insertion.marks.items l.insertion.kept
