@@ -1,6 +1,6 @@
 //! Worked rows: whole numbers of 256 bits, their products and quotients.
 
-use exact256::{Divisor, Integer, Natural, is_less_product, sum_of_products};
+use exact256::{Divisor, Integer, Natural, is_less_product, is_sum_above, sum_of_products};
 
 // The greatest number of 127 bits.
 const MOST: i128 = i128::MAX;
@@ -61,6 +61,31 @@ fn sums_of_products(rt: HostRuntime) {
         "only the finished sum counts"
     );
     assert!(rt; is_sum(&[big], &[2], None));
+}
+
+/// Whether a sum of two products is above a product, as wanted.
+fn is_above(xs: &[Integer], ys: &[i128], x: Integer, y: i128, want: bool) -> bool {
+    xs.len() == ys.len() && is_sum_above(xs, ys, x, y) == want
+}
+
+#[test]
+fn sums_above_products(rt: HostRuntime) {
+    let big = whole(false, TOP, 0);
+    for (xs, ys, x, y, want) in [
+        ([big, Integer::ONE], [4, 0], big, 4, false),
+        ([big, Integer::ONE], [4, 1], big, 4, true),
+        ([big, big], [MOST, MOST], big, MOST, true),
+        ([big, big], [-MOST, -MOST], big, -MOST, false),
+        (
+            [Integer::ZERO, whole(true, 0, 0)],
+            [MOST, -1],
+            Integer::ONE,
+            -1,
+            true,
+        ),
+    ] {
+        assert!(rt; is_above(&xs, &ys, x, y, want), "{ys:?}");
+    }
 }
 
 #[test]

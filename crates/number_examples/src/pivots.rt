@@ -221,11 +221,13 @@ fn tests_from_a_basis(rt: HostRuntime) {
     }
 }
 
-/// About 2^90, 2^89 and 2^80.
+/// 2^90.
 const GREAT: i128 = 1_237_940_039_285_380_274_899_124_224;
 
+/// 2^89.
 const HALF: i128 = 618_970_019_642_690_137_449_562_112;
 
+/// 2^80.
 const LESS: i128 = 1_208_925_819_614_629_174_706_176;
 
 /// Whether this is said of a row where the first variable is a little above the second, and that above the third. The
