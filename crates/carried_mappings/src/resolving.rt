@@ -8,7 +8,6 @@ ghost use Rattle.solved_program.specs.Solved.{AreSolved};
 ghost use Rattle.solved_program.specs.Standing.{KeepValues};
 ghost use Rattle.carried_mappings.specs.FoundMappings.{AreFound, AreKeptFound, AreMappingSources, FoundBefore};
 ghost use Rattle.carried_mappings.specs.FoundMappings.{IsCarriedAt, IsFoundAt, IsKept, KeepFound, ValuesAreKept};
-ghost use Rattle.carried_mappings.specs.FoundMappings.{nothing};
 
 use crate::standing::Standing;
 use level_dual::mappings;
@@ -20,18 +19,6 @@ use solved_program::{Edit, SolvedSizes, Sources, stayed_rows};
 use std::alloc::{AllocError, Global};
 use term_size::Norm;
 use termination_model::Sizes;
-
-/// Nothing, where no mappings are searched for.
-fn nothing(alloc: Global) -> Found
-    ensures { result ≡ nothing }
-{
-    Found {
-        mappings: Sequence::new(alloc),
-        refutation: None,
-        blown: Sequence::new(alloc),
-        large: false,
-    }
-}
 
 /// What the mappings after an edit are made from.
 #[derive(Clone, Copy)]
@@ -105,7 +92,7 @@ impl MappingSources<'_> {
         let _old = edit.before.preds();
         let _new = edit.after.preds();
         if !edit.components.recursive(c) {
-            return Ok(nothing(alloc));
+            return Ok(Found::nothing(alloc));
         }
         match self.standing(c) {
             Some(before) => self.carried(alloc, before, c),

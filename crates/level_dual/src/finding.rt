@@ -87,7 +87,7 @@ fn nothing_decided(alloc: Global, full: Sequence<u32>, large: bool) -> Result<Fo
     })
 }
 
-/// What is found where the set of all positions was given up, of more positions than are looked at in all supports.
+/// What is found where the search at the set of all positions was given up.
 fn all_given_up(alloc: Global, full: Sequence<u32>, large: bool) -> Result<Found, AllocError>
     ensures { IfOk result (λ f. f
         ≡ record { mappings = []; refutation = None; blown = full ∷ []; large = large }) }

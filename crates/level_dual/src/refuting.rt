@@ -1,6 +1,6 @@
 //! Refutations of a component, tested as a certificate's check tests them.
 
-ghost use Rattle.std.specs.Prelude.{◌≡◌, ◌↔◌, ◌+◌, ◌∷◌, ◌≤ℤ◌, ℕ, ℤ, All, List, IfOk, IfSome, IsTrue, None, false, length, map, pos, true};
+ghost use Rattle.std.specs.Prelude.{◌≡◌, ◌↔◌, ◌+◌, ◌∷◌, ℕ, ℤ, List, IfOk, IfSome, IsTrue, None, false, length, map, pos, true};
 ghost use Rattle.std.specs.List.{AllByRecursion};
 ghost use Rattle.call_components.specs.Numbers.{number_of};
 ghost use Rattle.call_components.specs.Partition.{IsIn, Partition};
@@ -25,7 +25,7 @@ ghost use Rattle.termination_model.specs.mappings.ComponentViews.{HasSupportIn, 
 use cti_terms::Program;
 use fourier::{ElimFault, Solved};
 use level_systems::{Component, OwnCall, point_of, solve_by, support_system};
-use linear_rows::{Numbers, Point};
+use linear_rows::{Numbers, Point, are_natural};
 use number_tests::{PairPoint, Refutation, points_flaw, sums_flaw};
 use sequences::Sequence;
 use std::alloc::{AllocError, Global};
@@ -165,18 +165,6 @@ fn refuting_points(
         Err(ElimFault::Blown { .. }) => Ok(None),
         Err(ElimFault::Memory) => Err(AllocError),
     }
-}
-
-/// Whether all numbers are at least 0.
-fn are_natural(numbers: &[i128]) -> bool
-    ensures { IsTrue result ↔ All (λ x. pos 0 ≤ℤ x) numbers.now }
-{
-    for number in numbers {
-        if *number < 0 {
-            return false;
-        }
-    }
-    true
 }
 
 /// Whether all numbers of a point are at least 0.

@@ -1,8 +1,11 @@
 //! What is found of a component's mappings.
 
+ghost use Rattle.std.specs.Prelude.{◌≡◌, [], None, false};
+
 use crate::mapping::Mapping;
 use number_tests::Refutation;
 use sequences::Sequence;
+use std::alloc::Global;
 
 /// The mappings of a component, or why there are none.
 ///
@@ -30,5 +33,19 @@ impl Drop for Found {
             blown: _,
             large: _,
         } = self;
+    }
+}
+
+impl Found {
+    /// Nothing, where no mappings are searched for.
+    pub fn nothing(alloc: Global) -> Found
+        ensures { result ≡ record { mappings = []; refutation = None; blown = []; large = false } }
+    {
+        Found {
+            mappings: Sequence::new(alloc),
+            refutation: None,
+            blown: Sequence::new(alloc),
+            large: false,
+        }
     }
 }

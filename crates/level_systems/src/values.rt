@@ -15,8 +15,8 @@ use linear_rows::Numbers;
 use number_tests::LevelPart;
 use std::alloc::{AllocError, Global};
 
-/// The value of a position, or 0 where it has none.
-fn value_at(positions: &[Position], values: &Numbers, pred: PredId, argument: u32) -> i128
+/// The coefficient of a position, or 0 where it has none.
+fn coefficient_at(positions: &[Position], values: &Numbers, pred: PredId, argument: u32) -> i128
     requires { AreDistinct (map spelled positions.now) }
     ensures { (cs : List ℕ) → length cs ≡ length positions.now
         → take (length positions.now) values.now ≡ map pos cs
@@ -62,7 +62,7 @@ fn coefficients(
 {
     let mut numbers = Numbers::new(alloc);
     for argument in 0..arity {
-        numbers.push(value_at(positions, values, pred, argument))?;
+        numbers.push(coefficient_at(positions, values, pred, argument))?;
     }
     Ok(numbers)
 }

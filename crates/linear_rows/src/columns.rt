@@ -8,15 +8,13 @@ ghost use Rattle.linear_rows.specs.Plain.{plain_row, plain_rows};
 use crate::row::Row;
 use exact128::{plus, times};
 
-/// The number of a row in a column.
+/// The number of a row in a column, and 0 past the last one.
 pub fn number(row: &Row, k: usize) -> i128
-    requires { k < length (plain_row row.now) }
     ensures { result ≡ entry (plain_row row.now) k }
 {
-    if k == 0 {
-        row.constant
-    } else {
-        row.coeffs.entry(k - 1)
+    match k.checked_sub(1) {
+        Some(place) => row.coeffs.entry(place),
+        None => row.constant,
     }
 }
 

@@ -19,7 +19,7 @@ mod system;
 pub use columns::number;
 pub use combining::{RowFault, combine};
 pub use multipliers::{Multipliers, Proof, copied_multipliers};
-pub use numbers::{Numbers, zeros};
+pub use numbers::{Numbers, are_natural, zeros};
 pub use point::Point;
 pub use proving::proves;
 pub use row::{Row, RowList, Rows};

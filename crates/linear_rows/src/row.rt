@@ -30,7 +30,9 @@ impl Row {
         })
     }
 
-    /// The value at `w` over `t`, times `t`. None where `w` has another length, or a number that it is formed of does not fit.
+    /// The value at `w` over `t`, times `t`, if `w` has as many numbers as there are coefficients and all that is formed fits.
+    ///
+    /// None says nothing of the value.
     pub fn value_at(&self, t: i128, w: &[i128]) -> Option<i128>
         ensures { IfSome result (λ value. value ≡ dot (plain_row self.now) (t ∷ w.now)) }
     {

@@ -124,16 +124,6 @@ fn print_supports(
     print_facts(alloc, notes, out)
 }
 
-/// No mappings, where none are searched.
-fn nothing(alloc: Global) -> Found {
-    Found {
-        mappings: Sequence::new(alloc),
-        refutation: None,
-        blown: Sequence::new(alloc),
-        large: false,
-    }
-}
-
 /// No parts, of a certificate that names its norm so.
 pub(crate) fn no_parts(alloc: Global, norm: Option<CertNorm>) -> Parts
     ensures { result.norm ≡ norm }
@@ -180,7 +170,7 @@ fn find(alloc: Global, measured: &Measured, c: u32, sizes: &Sizes) -> Result<Fou
         (rows_of sizes.now.rows) c f) }
 {
     if !measured.comps.recursive(c) {
-        return Ok(nothing(alloc));
+        return Ok(Found::nothing(alloc));
     }
     level_dual::mappings(alloc, measured.p, measured.comps, c, &measured.norm, sizes)
 }

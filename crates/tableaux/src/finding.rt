@@ -1,6 +1,6 @@
 //! What pivots find, tested.
 
-ghost use Rattle.std.specs.Prelude.{◌≡◌, ◌∷◌, ◌≤ℤ◌, ◌+◌, ◌<◌, ◌^◌, pos, true, length, All, IfOk, IfSome};
+ghost use Rattle.std.specs.Prelude.{◌≡◌, ◌∷◌, ◌≤ℤ◌, ◌+◌, ◌<◌, ◌^◌, pos, true, length, IfOk, IfSome};
 ghost use Rattle.exact128.specs.Sums.{dot};
 ghost use Rattle.linear_rows.specs.Plain.{plain_row, plain_rows, HaveWidth};
 ghost use Rattle.linear_rows.specs.Rows.{IsPoint};
@@ -8,7 +8,7 @@ ghost use Rattle.tableaux.specs.Finding.{Solves};
 
 use crate::tableau::{End, Tableau};
 use fourier::Solved;
-use linear_rows::{Multipliers, Numbers, Point, Proof, Row, Rows, proves};
+use linear_rows::{Multipliers, Numbers, Point, Proof, Row, Rows, are_natural, proves};
 use std::alloc::{AllocError, Global};
 
 /// What pivots find of rows: a point, or multipliers that refute, if either is found and stands its test.
@@ -65,18 +65,6 @@ pub fn is_point(rows: &Rows, t: i128, w: &[i128]) -> bool
     }
     for i in 0..rows.list.len() {
         if !holds_at(rows.list.get(i), t, w) {
-            return false;
-        }
-    }
-    true
-}
-
-/// Whether no number is below 0.
-pub fn are_natural(numbers: &[i128]) -> bool
-    ensures { result ≡ true → All (λ x. pos 0 ≤ℤ x) numbers.now }
-{
-    for number in numbers {
-        if *number < 0 {
             return false;
         }
     }

@@ -9,4 +9,4 @@ mod divisors;
 mod finding;
 mod tableau;
 
-pub use finding::{are_natural, found, is_point, most_pivots};
+pub use finding::{found, is_point, most_pivots};

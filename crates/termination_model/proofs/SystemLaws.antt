@@ -1,9 +1,10 @@
 -- Systems, an atom at a time.
-use Rattle.std.proofs.Common.{◌≡◌, ℕ, suc, ℤ, pos, Bool, true, false, ◌||◌, not, if◌then◌else◌, List, [], ◌∷◌, ◌++◌, map, length, replicate, refl, ap, sym, ◌∙◌}
+use Rattle.std.proofs.Common.{◌≡◌, ℕ, suc, ℤ, pos, Bool, true, false, ◌||◌, not, if◌then◌else◌, List, [], ◌∷◌, ◌++◌, map, length, refl, ap, sym, ◌∙◌}
 use Rattle.std.specs.List.{AllByRecursion}
 use Rattle.std.proofs.lemmas.List.{map-append}
 use Rattle.cti_terms.specs.Tree.{Tree}
 use Rattle.cti_terms.specs.declared.atom_list.Atom.{Atom}
+use Rattle.linear_rows.specs.Solving.{zeros}
 use Rattle.term_size.specs.Norm.{IsNorm}
 use Rattle.termination_model.specs.sizes.Replacing.{AreColumns, over_columns}
 use Rattle.termination_model.specs.sizes.Sizes.{wide_rows, wide_system}
@@ -12,11 +13,11 @@ use Rattle.termination_model.specs.sizes.ShortSystems.{short_row, short_system}
 use Rattle.termination_model.proofs.Lists.{append_assoc}
 use Rattle.termination_model.proofs.RowColumns.{columns_replace}
 
-zeros_of_length : (z : List ℤ) → map (λ _. pos 0) z ≡ replicate (length z) (pos 0)
+zeros_of_length : (z : List ℤ) → map (λ _. pos 0) z ≡ zeros (length z)
 zeros_of_length [] = refl
 zeros_of_length (x ∷ z) = ap (λ s. pos 0 ∷ s) (zeros_of_length z)
 
-pub zeros_of : (z : List ℤ) → row_fits z ≡ false → short_row z ≡ replicate (length z) (pos 0)
+pub zeros_of : (z : List ℤ) → row_fits z ≡ false → short_row z ≡ zeros (length z)
 zeros_of z e = (λ i. if e i then z else map (λ _. pos 0) z) ∙ zeros_of_length z
 
 or_assoc : (a b c : Bool) → ((a || b) || c) ≡ (a || (b || c))

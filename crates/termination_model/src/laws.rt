@@ -41,7 +41,7 @@ pub fn append_is_bounded()
 {}
 
 /// An example: a query that calls itself is not bounded.
-pub fn a_loop_goes_on()
+pub fn a_self_call_is_unbounded()
     ensures { LoopGoesOn }
 {}
 

@@ -1,11 +1,12 @@
 //! The system of a clause up to an atom of its body.
 
-ghost use Rattle.std.specs.Prelude.{◌≡◌, ◌≤◌, ◌<◌, ◌-◌, ◌+◌, ◌++◌, ◌||◌, not, pos, map, length, replicate, take, slice_get, Some, IfOk, OnOk, IsTrue, All, Contains};
+ghost use Rattle.std.specs.Prelude.{◌≡◌, ◌≤◌, ◌<◌, ◌-◌, ◌+◌, ◌++◌, ◌||◌, not, map, length, take, slice_get, Some, IfOk, OnOk, IsTrue, All, Contains};
 ghost use Rattle.std.specs.List.{AllByRecursion};
 ghost use Rattle.cti_terms.specs.Listing.{atom_nodes};
 ghost use Rattle.cti_terms.specs.Tree.{is_below};
 ghost use Rattle.cti_terms.specs.declared.clauses.Clause.{Clause};
 ghost use Rattle.linear_rows.specs.Plain.{HaveWidth, plain_row, plain_rows};
+ghost use Rattle.linear_rows.specs.Solving.{zeros as zero_numbers};
 ghost use Rattle.linear_rows.specs.declared.row.Row.{Row};
 ghost use Rattle.linear_rows.specs.declared.row.Rows.{Rows};
 ghost use Rattle.termination_model.specs.sizes.Replacing.{over_columns};
@@ -16,7 +17,7 @@ ghost use Rattle.termination_model.specs.sizes.ShortSystems.{short_row, short_sy
 use crate::replacing::{add_expressions, columns, replaced};
 use crate::sizes::{SizeRows, Sizes};
 use cti_terms::{Atom, MOST_NODES, MOST_VARIABLES, Program};
-use linear_rows::{Numbers, Row, Rows, System};
+use linear_rows::{Numbers, Row, Rows, System, zeros};
 use std::alloc::{AllocError, Global};
 use term_size::Norm;
 
@@ -154,23 +155,21 @@ fn short_row(alloc: Global, row: &Row, columns: &[Numbers]) -> Result<ShortRow, 
     ensures wide { IfOk result
         (λ s. s.wide ≡ not (row_fits (over_columns columns.now (plain_row row.now)))) }
 {
-    let mut numbers = Vec::new(alloc);
-    numbers.push(row.constant)?;
-    numbers.extend_from_slice(row.coeffs.as_slice())?;
+    let numbers = row.numbers(alloc)?;
     match replaced(alloc, numbers.as_slice(), columns)? {
         Some(row) => Ok(ShortRow { row, wide: false }),
         None => Ok(ShortRow {
-            row: zeros(alloc, columns.len() - 1)?,
+            row: zero_row(alloc, columns.len() - 1)?,
             wide: true,
         }),
     }
 }
 
 /// The row of zeros.
-fn zeros(alloc: Global, width: usize) -> Result<Row, AllocError>
-    ensures { IfOk result (λ r. plain_row r ≡ replicate (width + 1) (pos 0)) }
+fn zero_row(alloc: Global, width: usize) -> Result<Row, AllocError>
+    ensures { IfOk result (λ r. plain_row r ≡ zero_numbers (width + 1)) }
 {
-    let coeffs = Numbers::from_vec(vec![in alloc; 0; width]?);
+    let coeffs = zeros(alloc, width)?;
     Ok(Row {
         constant: 0,
         coeffs,

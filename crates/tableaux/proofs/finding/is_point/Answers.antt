@@ -13,4 +13,4 @@ returns c =
     let long : length c.args.w.now ≡ c.args.rows.now.width = omega arith in
     let past : length c.args.rows.now.list ≤ c.loop-i.i = omega arith in
     let hold = simp to_z-of_z at c.loop-i.invariant in
-    λ e. point_is c.args.rows.now.width c.args.rows.now.list c.args.t c.args.w.now some long (c.are_natural.ensures yes) (λ k d l. hold k d (omega (arith, l, past)))
+    λ e. point_is c.args.rows.now.width c.args.rows.now.list c.args.t c.args.w.now some long (c.are_natural.ensures.0 yes) (λ k d l. hold k d (omega (arith, l, past)))

@@ -18,7 +18,7 @@ returns-in-Holds c =
     let list = c.args.list in
     let long : length list ≡ length rows = (let e : length list ≡ length c.args.rows.now.list = omega arith in e) ∙ sym (length-map c.args.rows.now.list plain_row) in
     let yes : c.are_natural.result ≡ true = search rules in
-    let natural : All (λ (x : ℤ). pos 0 ≤ℤ x) list = subst (λ (xs : List ℤ). All (λ (x : ℤ). pos 0 ≤ℤ x) xs) c.as_slice.ensures (c.are_natural.ensures yes) in
+    let natural : All (λ (x : ℤ). pos 0 ≤ℤ x) list = subst (λ (xs : List ℤ). All (λ (x : ℤ). pos 0 ≤ℤ x) xs) c.as_slice.ensures (c.are_natural.ensures.0 yes) in
     let says : Says rows c.as_slice-2.result.now (plain_row c.in_ok-bottom.bottom) (pos 0) Holds = c.in-Holds.ensures.says in
     let here : Says rows list (bottom_row n) (pos 0) Holds = subst (λ (r : List ℤ). Says rows list r (pos 0) Holds) c.in_ok-bottom.ensures (subst (λ (xs : List ℤ). Says rows xs (plain_row c.in_ok-bottom.bottom) (pos 0) Holds) c.as_slice-2.ensures says) in
     refutes_rows n rows list long natural here

@@ -4,8 +4,8 @@ use Rattle.std.proofs.lemmas.Int.{to_z-of_z}
 use Rattle.termination_model.proofs.Lists.{one_element, there}
 use Rattle.level_systems.specs.declared.position.Position.{Position}
 use Rattle.level_systems.proofs.ValueLaws.{no_value, position_value}
-use Rattle.level_systems.proofs.values.value_at.Goals.{else-positions-i-via-then-positions-i+else-positions-i-2, else-positions-i-via-else-positions-i}
-use Rattle.level_systems.proofs.values.value_at.Goals as goal
+use Rattle.level_systems.proofs.values.coefficient_at.Goals.{else-positions-i-via-then-positions-i+else-positions-i-2, else-positions-i-via-else-positions-i}
+use Rattle.level_systems.proofs.values.coefficient_at.Goals as goal
 
 pub returns-then-positions-i-2 : goal.returns-then-positions-i-2
 returns-then-positions-i-2 c = λ cs l e.
