@@ -3,7 +3,7 @@
 //! `tested` says whether rows imply a row: by one row that shows it, by the origin, or else by `simplex`. `projected`
 //! eliminates the last columns by `fourier` and leaves an irredundant part of the rows. It is chosen by hints: a point
 //! inside, points at which single rows fail, and the basis of the last test. `push_zeros` and its like lay out the rows
-//! of larger systems. The crate depends on `exact128`, `exact256`, `rational128`, `linear_rows`, `sparse_rows`,
+//! of larger systems. The crate depends on `exact128`, `exact384`, `rational128`, `linear_rows`, `sparse_rows`,
 //! `fourier`, `simplex` and `termination_model`.
 #![tactic(auto)]
 

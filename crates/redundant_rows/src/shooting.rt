@@ -8,7 +8,7 @@ ghost use Rattle.std.specs.Prelude.{◌≡◌, length};
 use crate::mark::Mark;
 use crate::points::{Weights, bits_above, copied, weighed};
 use exact128::{minus, plus};
-use exact256::{Integer, is_less_product};
+use exact384::{Integer, is_less_product};
 use linear_rows::{Point, Row, Rows};
 use std::alloc::{AllocError, Global};
 

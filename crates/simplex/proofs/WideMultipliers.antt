@@ -4,8 +4,8 @@ use Rattle.std.specs.Prelude.{All, ◌≤ℤ◌}
 use Rattle.std.proofs.lemmas.Int.{ints}
 use Rattle.std.proofs.lemmas.List.{get_or-map, length-map}
 use Rattle.exact128.specs.Sums.{entry}
-use Rattle.exact256.specs.declared.integer.Integer.{Integer}
-use Rattle.exact256.specs.Value.{value_of}
+use Rattle.exact384.specs.declared.integer.Integer.{Integer}
+use Rattle.exact384.specs.Value.{value_of}
 use Rattle.linear_rows.specs.Proves.{goal_number}
 
 pub not_below : (z : ℤ) → int_lt z (pos 0) ≡ false → pos 0 ≤ℤ z
@@ -33,4 +33,4 @@ naturals xs h k d l =
     subst (λ (z : ℤ). pos 0 ≤ℤ z) (sym (get_or-map value_of xs k spare d lt)) (h k spare lt)
   where
     spare : Integer
-    spare = record { negative = false; magnitude = record { low = 0; high = 0 } }
+    spare = record { negative = false; magnitude = record { low = 0; middle = 0; high = 0 } }

@@ -5,8 +5,8 @@ use Rattle.std.specs.declared.alloc.AllocError.{AllocError}
 use Rattle.std.proofs.lemmas.Int.{ints}
 use Rattle.std.proofs.lemmas.List.{length-map}
 use Rattle.exact128.specs.Sums.{dot}
-use Rattle.exact256.specs.declared.integer.Integer.{Integer}
-use Rattle.exact256.specs.Value.{value_of}
+use Rattle.exact384.specs.declared.integer.Integer.{Integer}
+use Rattle.exact384.specs.Value.{value_of}
 use Rattle.exact128.proofs.Rings.{rings}
 use Rattle.linear_rows.specs.Irredundant.{Fails}
 use Rattle.simplex.specs.Telling.{IsWidePoint}
@@ -43,7 +43,7 @@ point_of n [] d long above natural = absurd (omega arith)
 point_of n (x ∷ xs) d long above natural = wide_point n (value_of x) (map value_of xs) (length-map xs value_of ∙ omega arith) above (naturals (x ∷ xs) natural)
 
 -- 1 times -1
-pub minus_one : value_of (record { negative = false; magnitude = record { low = 1; high = 0 } }) *ℤ negsuc 0 ≡ negsuc 0
+pub minus_one : value_of (record { negative = false; magnitude = record { low = 1; middle = 0; high = 0 } }) *ℤ negsuc 0 ≡ negsuc 0
 unfolding value_of
 minus_one = refl
 

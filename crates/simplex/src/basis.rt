@@ -9,7 +9,7 @@
 //! Source: the numbers of an inverse over one determinant as in Edmonds 1967.
 
 use crate::integers::product;
-use exact256::{Divisor, Integer};
+use exact384::{Divisor, Integer};
 use linear_rows::Point;
 use std::alloc::{AllocError, Global};
 

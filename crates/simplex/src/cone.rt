@@ -16,13 +16,16 @@ use crate::pricing::Prices;
 use crate::wide_multipliers::WideMultipliers;
 use crate::wide_point::WidePoint;
 use exact128::plus;
-use exact256::{Divisor, Integer, is_less_product, sum_of_products};
+use exact384::{Divisor, Integer, is_less_product, sum_of_products};
 use linear_rows::{Numbers, Point, Row, Rows};
 use std::alloc::{AllocError, Global};
 use tableaux::{is_point, most_pivots};
 
 /// After so many pivots of a search the smallest indices are chosen.
-const EARLY_PIVOTS: usize = 40;
+const EARLY_PIVOTS: usize = 400;
+
+/// To so many bits the greatest number of each row of the inverse is shortened, to compare how far rows fail there.
+const MEASURED_BITS: u32 = 20;
 
 /// How pivots end.
 #[derive(Clone, Copy)]
@@ -161,8 +164,15 @@ fn leaves(basis: &Basis, place: usize, best: Option<usize>, is_late: bool) -> bo
     if is_late {
         basis.member(place).is_before(basis.member(best))
     } else {
-        basis.coordinate(place).is_less(basis.coordinate(best))
+        depth(basis, place) < depth(basis, best)
     }
+}
+
+/// About the coordinate at a place over the greatest number of its row of the inverse, times 2^20.
+fn depth(basis: &Basis, place: usize) -> i128 {
+    let y = basis.inverse_row(place);
+    let places = most_bits(y).saturating_sub(MEASURED_BITS);
+    lowered(basis.coordinate(place), places)
 }
 
 /// A member, its product with a row of the inverse, and its greatest number.

@@ -4,7 +4,7 @@
 //! fast, the row of the inverse is shortened. So a price is a hint: whoever takes a row tests it.
 
 use crate::integers::{lowered, most_bits};
-use exact256::Integer;
+use exact384::Integer;
 use linear_rows::{Row, Rows};
 use std::alloc::{AllocError, Global};
 

@@ -1,14 +1,14 @@
-//! Multipliers of 256 bits, and their test in 512 bits.
+//! Multipliers of 384 bits, and their test in 768 bits.
 
 ghost use Rattle.std.specs.Prelude.{◌≡◌, ◌+◌, ◌≤ℤ◌, ◌-ℤ◌, pos, suc, IfOk, OnOk, All, length, map, true};
-ghost use Rattle.exact128.specs.Sums.{dot, entry};
-ghost use Rattle.exact256.specs.Value.{value_of};
+ghost use Rattle.exact128.specs.Sums.{dot};
+ghost use Rattle.exact384.specs.Value.{value_of};
 ghost use Rattle.linear_rows.specs.Plain.{plain_row, plain_rows, HaveWidth};
 ghost use Rattle.linear_rows.specs.Rows.{HoldsOn, column};
 ghost use Rattle.linear_rows.specs.Proves.{goal_number};
 
-use exact256::{Integer, is_sum_above};
-use linear_rows::{Row, Rows};
+use exact384::{Integer, is_sum_above};
+use linear_rows::{Row, Rows, number};
 use std::alloc::{AllocError, Global};
 
 /// A multiplier for each row, and the scale of the row that they may show.
@@ -51,7 +51,7 @@ impl WideMultipliers {
         if self.scale.is_zero() && place == 0 {
             return !is_sum_above(list, numbers, Integer::ONE, -1);
         }
-        !is_sum_above(list, numbers, self.scale, number_at(row, place))
+        !is_sum_above(list, numbers, self.scale, number(row, place))
     }
 }
 
@@ -67,23 +67,13 @@ pub fn are_natural(list: &[Integer]) -> bool
     true
 }
 
-/// The number of a row at a place: the constant stands at 0.
-fn number_at(row: &Row, place: usize) -> i128
-    ensures { result ≡ entry (plain_row row.now) place }
-{
-    match place.checked_sub(1) {
-        Some(k) => row.coeffs.entry(k),
-        None => row.constant,
-    }
-}
-
 /// Puts the numbers of the rows at a place into a list, in the place of others.
 fn put_column(numbers: &mut Vec<i128>, rows: &Rows, place: usize) -> Result<(), AllocError>
     ensures { OnOk result (numbers.new.items ≡ column (plain_rows rows.now.list) place) }
 {
     numbers.truncate(0);
     for row in rows.list.as_slice() {
-        numbers.push(number_at(row, place))?;
+        numbers.push(number(row, place))?;
     }
     Ok(())
 }

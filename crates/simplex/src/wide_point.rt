@@ -1,15 +1,15 @@
-//! Points of 256 bits, and their test in 512 bits.
+//! Points of 384 bits, and their test in 768 bits.
 
 ghost use Rattle.std.specs.Prelude.{◌≡◌, ◌+◌, ◌≤ℤ◌, pos, negsuc, int_lt, IfOk, OnOk, All, length, map, true};
 ghost use Rattle.exact128.specs.Sums.{dot};
-ghost use Rattle.exact256.specs.Value.{value_of};
+ghost use Rattle.exact384.specs.Value.{value_of};
 ghost use Rattle.linear_rows.specs.Plain.{plain_row, plain_rows, HaveWidth};
 ghost use Rattle.linear_rows.specs.Irredundant.{Fails};
 ghost use Rattle.simplex.specs.Telling.{IsWidePoint};
 
 use crate::integers::spell;
 use crate::wide_multipliers::are_natural;
-use exact256::{Integer, is_sum_above};
+use exact384::{Integer, is_sum_above};
 use linear_rows::{Row, Rows};
 use std::alloc::{AllocError, Global};
 

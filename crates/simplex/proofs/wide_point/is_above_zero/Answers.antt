@@ -1,4 +1,4 @@
-use Rattle.exact256.specs.Value.{value_of}
+use Rattle.exact384.specs.Value.{value_of}
 use Rattle.simplex.proofs.wide_point.is_above_zero.Goals as goal
 
 pub returns : goal.returns

@@ -1,7 +1,7 @@
 use Rattle.std.proofs.Common.{rules, ◌≡◌, ◌∙◌, ℕ, suc, ℤ, pos, true, List, map, ap, sym, subst, arith}
 use Rattle.std.specs.Prelude.{All, ◌≤ℤ◌}
-use Rattle.exact256.specs.declared.integer.Integer.{Integer}
-use Rattle.exact256.specs.Value.{value_of}
+use Rattle.exact384.specs.declared.integer.Integer.{Integer}
+use Rattle.exact384.specs.Value.{value_of}
 use Rattle.linear_rows.specs.Plain.{plain_row, plain_rows}
 use Rattle.linear_rows.specs.Proves.{Proves}
 use Rattle.linear_rows.specs.Rows.{HoldsOn}

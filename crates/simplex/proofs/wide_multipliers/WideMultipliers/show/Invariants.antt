@@ -1,6 +1,6 @@
 use Rattle.std.proofs.Common.{ℕ, pos, ◌<◌, map}
 use Rattle.std.specs.Prelude.{◌≤ℤ◌}
-use Rattle.exact256.specs.Value.{value_of}
+use Rattle.exact384.specs.Value.{value_of}
 use Rattle.linear_rows.specs.Plain.{plain_row, plain_rows}
 use Rattle.linear_rows.specs.Proves.{rest_number}
 use Rattle.simplex.proofs.wide_multipliers.WideMultipliers.show.Given as goal

@@ -2,7 +2,7 @@ use Rattle.std.proofs.Common.{rules, ◌≡◌, ◌∙◌, ℤ, pos, negsuc, ◌
 use Rattle.std.specs.Prelude.{◌≤ℤ◌}
 use Rattle.std.proofs.lemmas.Bool.Decides.{Decides-int_eq}
 use Rattle.exact128.specs.Sums.{dot}
-use Rattle.exact256.specs.Value.{value_of}
+use Rattle.exact384.specs.Value.{value_of}
 use Rattle.linear_rows.specs.Plain.{plain_row}
 use Rattle.linear_rows.specs.Proves.{goal_number}
 use Rattle.simplex.proofs.WideMultipliers.{at_most, nowhere}

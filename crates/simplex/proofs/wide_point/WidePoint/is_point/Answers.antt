@@ -1,6 +1,6 @@
 use Rattle.std.proofs.Common.{◌∙◌, List, map, sym, subst}
-use Rattle.exact256.specs.declared.integer.Integer.{Integer}
-use Rattle.exact256.specs.Value.{value_of}
+use Rattle.exact384.specs.declared.integer.Integer.{Integer}
+use Rattle.exact384.specs.Value.{value_of}
 use Rattle.simplex.specs.Telling.{IsWidePoint}
 use Rattle.simplex.proofs.WidePoints.{point_of}
 use Rattle.simplex.proofs.wide_point.WidePoint.is_point.Goals as goal

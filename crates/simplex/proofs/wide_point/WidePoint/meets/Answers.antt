@@ -1,6 +1,6 @@
 use Rattle.std.proofs.Common.{◌∙◌, int_lt, map}
 use Rattle.exact128.specs.Sums.{dot}
-use Rattle.exact256.specs.Value.{value_of}
+use Rattle.exact384.specs.Value.{value_of}
 use Rattle.simplex.proofs.WidePoints.{minus_one}
 use Rattle.simplex.proofs.wide_point.WidePoint.meets.Goals as goal
 

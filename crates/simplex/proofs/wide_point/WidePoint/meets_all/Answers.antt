@@ -2,7 +2,7 @@ use Rattle.std.proofs.Common.{◌<◌, ℤ, List, pos, [], map, length, sym, sub
 use Rattle.std.specs.Prelude.{◌≤ℤ◌}
 use Rattle.std.proofs.lemmas.List.{get_or-map, length-map}
 use Rattle.exact128.specs.Sums.{dot}
-use Rattle.exact256.specs.Value.{value_of}
+use Rattle.exact384.specs.Value.{value_of}
 use Rattle.linear_rows.specs.Plain.{plain_row}
 use Rattle.linear_rows.specs.declared.row.Row.{Row}
 use Rattle.simplex.proofs.wide_point.WidePoint.meets_all.Goals as goal

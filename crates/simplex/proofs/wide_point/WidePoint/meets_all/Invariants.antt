@@ -1,7 +1,7 @@
 use Rattle.std.proofs.Common.{ℕ, pos, ◌<◌, get_or, map}
 use Rattle.std.specs.Prelude.{◌≤ℤ◌}
 use Rattle.exact128.specs.Sums.{dot}
-use Rattle.exact256.specs.Value.{value_of}
+use Rattle.exact384.specs.Value.{value_of}
 use Rattle.linear_rows.specs.Plain.{plain_row}
 use Rattle.linear_rows.specs.declared.row.Row.{Row}
 use Rattle.simplex.proofs.wide_point.WidePoint.meets_all.Given as goal

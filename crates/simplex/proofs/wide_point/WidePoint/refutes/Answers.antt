@@ -1,6 +1,6 @@
 use Rattle.std.proofs.Common.{rules, ◌≡◌, ◌∙◌, ℤ, List, negsuc, int_lt, true, false, map, sym, subst}
 use Rattle.exact128.specs.Sums.{dot}
-use Rattle.exact256.specs.Value.{value_of}
+use Rattle.exact384.specs.Value.{value_of}
 use Rattle.linear_rows.specs.Plain.{plain_row, plain_rows}
 use Rattle.simplex.proofs.WidePoints.{refuted_if}
 use Rattle.simplex.proofs.wide_point.WidePoint.refutes.Goals as goal
