@@ -14,7 +14,7 @@ use crate::covering::mark_uncovered;
 use crate::fault::ModeFault;
 use crate::marks::Marks;
 use crate::ranks::component_numbers;
-use crate::rules::mark_broken;
+use crate::rules::PreconditionRule;
 use crate::sets::Sets;
 use bool_diagrams::Table;
 use call_components::Components;
@@ -73,7 +73,13 @@ fn marks_of<N: Norm>(
     let preconditions = sets.preconditions.as_slice();
     mark_open(norm, table, p, sets.grounds.as_slice(), &mut marks)?;
     mark_uncovered(alloc, table, p, levels, preconditions, &mut marks)?;
-    mark_broken(alloc, norm, table, p, ranks.as_slice(), sets, &mut marks)?;
+    let rule = PreconditionRule {
+        norm,
+        program: p,
+        ranks: ranks.as_slice(),
+        sets,
+    };
+    rule.mark_broken(alloc, table, &mut marks)?;
     mark_refused(
         table,
         p,

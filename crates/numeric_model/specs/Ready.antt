@@ -2,7 +2,7 @@
 -- A state in which the components of a program are solved one after another.
 --
 -- To believe: `IsComponent`, `IsReady`, `KeepsOtherRows`.
-use Rattle.std.specs.Prelude.{◌≡◌, ℕ, ◌+◌, ◌<◌, ◌≤◌, ℤ, Bool, false, List, [], length}
+use Rattle.std.specs.Prelude.{◌≡◌, ℕ, ◌+◌, ◌<◌, ◌≤◌, ℤ, false, List, [], length}
 use Rattle.std.specs.List.{AllByRecursion}
 use Rattle.call_components.specs.Partition.{Partition, AreComponents, IsIn}
 use Rattle.cti_terms.specs.Listing.{Listing}
@@ -23,6 +23,10 @@ pub record IsComponent (own : ComponentClauses) : Type 0 where
   pub clauses_are : with_clauses own.program.now.clauses own.clauses.now ≡ clauses_of own.program.now own.comps.now own.number
 
 module _ {D : Type 0} (width : D → ℕ) (listed : D → List (List ℤ)) where
+  -- the state of a chain at a component: predicates of earlier ones need no values
+  abbrev pub IsStateFor : ComponentClauses → State D → Type 0
+  IsStateFor own s = IsState width listed (own_from own.comps.now own.number) own.program.now s
+
   -- The components below c are done. Predicates of no such component have the rows of the start, and there are no steps
   pub record IsReady (p : Listing) (comps : Partition) (c : ℕ) (s : State D) : Type 0 where
     pub state : IsState width listed (own_from comps c) p s

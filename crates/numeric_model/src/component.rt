@@ -9,7 +9,7 @@ ghost use Rattle.termination_model.specs.chains.Runs.{is_before};
 
 use crate::chain::Chain;
 use crate::clause_lists::own_clauses;
-use crate::running::run_component;
+use crate::in_turn::ComponentClauses;
 use crate::state::State;
 use call_components::Components;
 use cti_terms::{PredId, Program};
@@ -40,15 +40,13 @@ pub fn solve_component<D: Domain, N: Norm>(
     let own = own_clauses(alloc, p, comps)?;
     let mut state = State::<D>::start(alloc, p)?;
     put_below(alloc, p, comps, c, &below.rows, &mut state.sizes.rows)?;
-    run_component(
-        alloc,
-        p,
+    let component = ComponentClauses {
+        program: p,
         comps,
-        c,
-        norm,
-        own[c as usize].as_slice(),
-        &mut state,
-    )?;
+        number: c,
+        clauses: own[c as usize].as_slice(),
+    };
+    component.run_passes(alloc, norm, &mut state)?;
     Ok(state.into_chain())
 }
 

@@ -5,7 +5,6 @@ ghost use Rattle.numeric_model.specs.Parts.{IsPartOf};
 ghost use Rattle.numeric_model.specs.Ready.{IsComponent, IsReadyAfter, IsReadyFor, KeepsOtherRows, chain_of};
 ghost use Rattle.numeric_model.specs.Running.{rows_in};
 
-use crate::running::run_component;
 use crate::state::State;
 use crate::step::Step;
 use call_components::Components;
@@ -46,15 +45,7 @@ impl<D: Domain> State<D> {
         ensures others { OnOk result (KeepsOtherRows own.now self.old self.new) }
     {
         let _program = own.program.clauses();
-        run_component(
-            alloc,
-            own.program,
-            own.comps,
-            own.number,
-            norm,
-            own.clauses,
-            self,
-        )?;
+        own.run_passes(alloc, norm, self)?;
         self.latest.forget(own.comps.members(own.number));
         Ok(mem::replace(&mut self.steps, Sequence::new(alloc)))
     }

@@ -1,6 +1,6 @@
 //! A step of the chain, on the clause of a number.
 
-ghost use Rattle.std.specs.Prelude.{◌≡◌, ◌≤◌, ◌-◌, IfOk, length, map, slice_get, Some, take};
+ghost use Rattle.std.specs.Prelude.{◌≡◌, ◌≤◌, ◌-◌, IfOk, length, slice_get, Some};
 ghost use Rattle.cti_terms.specs.declared.clauses.Clause.{Clause};
 ghost use Rattle.linear_rows.specs.Plain.{plain_rows};
 ghost use Rattle.polyhedra.specs.Making.{SaysImage, arity_of};
@@ -13,6 +13,7 @@ ghost use Rattle.numeric_model.specs.Stepping.{IsStep};
 use crate::filled::Filled;
 use crate::stepped::Stepped;
 use crate::stepping::step_on;
+use crate::value::Value;
 use cti_terms::Program;
 use linear_rows::{Rows, System};
 use polyhedra::Domain;
@@ -64,8 +65,7 @@ pub(crate) fn note_step<D: Domain, N: Norm>(
     p: &Program,
     norm: &N,
     sizes: &Sizes,
-    old: &D,
-    filled: Filled,
+    old: &Value<D>,
     k: u32,
     pass: u32,
 ) -> Result<Noted<D>, AllocError>
@@ -73,12 +73,12 @@ pub(crate) fn note_step<D: Domain, N: Norm>(
     requires last { k ≤ length p.now.clauses }
     requires sizes { AreSizes p.now.preds sizes.now.rows }
     requires old { (c : Clause) → slice_get p.now.clauses (k - 1) ≡ Some c
-        → HasRowsOf (rows_of sizes.now.rows) c filled (D.width old.now) (D.listed old.now) }
+        → HasRowsOf (rows_of sizes.now.rows) c old.now.filled (D.width old.now.of) (D.listed old.now.of) }
     ensures { IfOk result (λ noted. (c : Clause) → slice_get p.now.clauses (k - 1) ≡ Some c
         → IsNoted D.width D.listed D.speaks (N.expression norm.now) pass
-        (rows_of sizes.now.rows) c k filled noted) }
+        (rows_of sizes.now.rows) c k old.now.filled noted) }
 {
     let clause = p.clause(k);
     let system = system(alloc, p, norm, sizes, k, clause.body.len() as u32)?;
-    note_on(alloc, &system, old, filled, pass)
+    note_on(alloc, &system, &old.of, old.filled, pass)
 }

@@ -1,20 +1,20 @@
 //! Steps, passes and components.
 
-ghost use Rattle.std.specs.Prelude.{◌≡◌, ◌≤◌, ◌<◌, ◌-◌, ℕ, true, IfOk, OnOk, length, slice_get, Some};
-ghost use Rattle.std.specs.List.{AllByRecursion};
+ghost use Rattle.std.specs.Prelude.{◌≡◌, ◌≤◌, ◌<◌, ◌-◌, true, IfOk, OnOk, length, slice_get, Some};
 ghost use Rattle.cti_terms.specs.declared.clauses.Clause.{Clause};
 ghost use Rattle.numeric_model.specs.Noting.{HasRowsOf, IsNoted};
+ghost use Rattle.numeric_model.specs.Ready.{IsComponent, IsStateFor};
 ghost use Rattle.numeric_model.specs.Repeating.{IsMarked, WereLegal};
 ghost use Rattle.numeric_model.specs.Running.{IsPassed, IsRun, IsTaken, with_clauses};
-ghost use Rattle.numeric_model.specs.States.{IsState, own_from};
+ghost use Rattle.numeric_model.specs.States.{own_from};
 ghost use Rattle.termination_model.specs.sizes.Sizes.{AreSizes, rows_of};
 
 use crate::filled::Filled;
+use crate::in_turn::ComponentClauses;
 use crate::noting::{Noted, note_step};
 use crate::repeating::note_again;
 use crate::state::State;
 use crate::value::Value;
-use call_components::Components;
 use cti_terms::Program;
 use polyhedra::Domain;
 use std::alloc::{AllocError, Global};
@@ -49,106 +49,91 @@ fn note<D: Domain, N: Norm>(
             }
         }
     }
-    note_step(
-        alloc,
-        p,
-        norm,
-        &state.sizes,
-        &value.of,
-        value.filled,
-        k,
-        pass,
-    )
+    note_step(alloc, p, norm, &state.sizes, value, k, pass)
 }
 
-/// A step on clause `k`. It says whether rows changed.
-fn run_step<D: Domain, N: Norm>(
-    alloc: Global,
-    p: &Program,
-    comps: &Components,
-    c: u32,
-    norm: &N,
-    k: u32,
-    pass: u32,
-    state: &mut State<D>,
-) -> Result<bool, AllocError>
-    requires first { 1 ≤ k }
-    requires last { k ≤ length p.now.clauses }
-    requires head { (x : Clause) → slice_get p.now.clauses (k - 1) ≡ Some x
-        → own_from comps.now c x.head.pred.0 ≡ true }
-    requires state { IsState D.width D.listed (own_from comps.now c) p.now state.old }
-    requires legal { WereLegal D.speaks (N.expression norm.now) p.now state.old }
-    ensures state { OnOk result (IsState D.width D.listed (own_from comps.now c) p.now state.new) }
-    ensures taken { IfOk result (λ changed. (x : Clause) → slice_get p.now.clauses (k - 1) ≡ Some x
-        → IsTaken D.width D.listed D.speaks (N.expression norm.now) pass
-        (k, x) state.old state.new changed
-        × IsMarked x.head.pred.0 state.old state.new changed) }
-{
-    let pred = p.clause(k).head.pred;
-    let value = &state.values[pred.0 as usize];
-    let noted = note(alloc, p, norm, k, pass, state, value)?;
-    state.accept(alloc, k, pred, noted)
-}
-
-/// A step on each of these clauses, in order. It says whether rows changed.
-fn run_pass<D: Domain, N: Norm>(
-    alloc: Global,
-    p: &Program,
-    comps: &Components,
-    c: u32,
-    norm: &N,
-    own: &[u32],
-    pass: u32,
-    state: &mut State<D>,
-) -> Result<bool, AllocError>
-    requires own { AllByRecursion (λ k. (1 ≤ k) × (k ≤ length p.now.clauses)) own.now }
-    requires heads { (j k : ℕ) (x : Clause) → slice_get own.now j ≡ Some k
-        → slice_get p.now.clauses (k - 1) ≡ Some x → own_from comps.now c x.head.pred.0 ≡ true }
-    requires state { IsState D.width D.listed (own_from comps.now c) p.now state.old }
-    requires legal { WereLegal D.speaks (N.expression norm.now) p.now state.old }
-    ensures state { OnOk result (IsState D.width D.listed (own_from comps.now c) p.now state.new) }
-    ensures legal { OnOk result (WereLegal D.speaks (N.expression norm.now) p.now state.new) }
-    ensures passed { IfOk result
-        (IsPassed D.width D.listed D.speaks (N.expression norm.now) pass
-        (with_clauses p.now.clauses own.now) state.old state.new) }
-{
-    let mut changed = false;
-    for k in own {
-        let more = run_step(alloc, p, comps, c, norm, *k, pass, state)?;
-        changed |= more;
+impl ComponentClauses<'_> {
+    /// A step on clause `k`. It says whether rows changed.
+    fn run_step<D: Domain, N: Norm>(
+        &self,
+        alloc: Global,
+        norm: &N,
+        k: u32,
+        pass: u32,
+        state: &mut State<D>,
+    ) -> Result<bool, AllocError>
+        requires first { 1 ≤ k }
+        requires last { k ≤ length self.now.program.now.clauses }
+        requires head { (x : Clause) → slice_get self.now.program.now.clauses (k - 1) ≡ Some x
+            → own_from self.now.comps.now self.now.number x.head.pred.0 ≡ true }
+        requires state { IsStateFor D.width D.listed self.now state.old }
+        requires legal { WereLegal D.speaks (N.expression norm.now) self.now.program.now state.old }
+        ensures state { OnOk result (IsStateFor D.width D.listed self.now state.new) }
+        ensures taken { IfOk result (λ changed. (x : Clause)
+            → slice_get self.now.program.now.clauses (k - 1) ≡ Some x
+            → IsTaken D.width D.listed D.speaks (N.expression norm.now) pass
+            (k, x) state.old state.new changed
+            × IsMarked x.head.pred.0 state.old state.new changed) }
+    {
+        let pred = self.program.clause(k).head.pred;
+        let value = &state.values[pred.0 as usize];
+        let noted = note(alloc, self.program, norm, k, pass, state, value)?;
+        state.accept(alloc, k, pred, noted)
     }
-    Ok(changed)
-}
 
-/// Passes over these clauses, those of a component, until one changes nothing.
-pub(crate) fn run_component<D: Domain, N: Norm>(
-    alloc: Global,
-    p: &Program,
-    comps: &Components,
-    c: u32,
-    norm: &N,
-    own: &[u32],
-    state: &mut State<D>,
-) -> Result<(), AllocError>
-    requires own { AllByRecursion (λ k. (1 ≤ k) × (k ≤ length p.now.clauses)) own.now }
-    requires heads { (j k : ℕ) (x : Clause) → slice_get own.now j ≡ Some k
-        → slice_get p.now.clauses (k - 1) ≡ Some x → own_from comps.now c x.head.pred.0 ≡ true }
-    requires state { IsState D.width D.listed (own_from comps.now c) p.now state.old }
-    requires legal { WereLegal D.speaks (N.expression norm.now) p.now state.old }
-    ensures state { OnOk result (IsState D.width D.listed (own_from comps.now c) p.now state.new) }
-    ensures legal { OnOk result (WereLegal D.speaks (N.expression norm.now) p.now state.new) }
-    ensures run { OnOk result
-        (IsRun D.width D.listed D.speaks (N.expression norm.now)
-        (with_clauses p.now.clauses own.now) state.old state.new) }
-{
-    let mut number = 1;
-    loop {
-        let changed = run_pass(alloc, p, comps, c, norm, own, number, state)?;
-        if !changed {
-            return Ok(());
+    /// A step on each of the clauses, in order. It says whether rows changed.
+    fn run_pass<D: Domain, N: Norm>(
+        &self,
+        alloc: Global,
+        norm: &N,
+        number: u32,
+        state: &mut State<D>,
+    ) -> Result<bool, AllocError>
+        requires component { IsComponent self.now }
+        requires state { IsStateFor D.width D.listed self.now state.old }
+        requires legal { WereLegal D.speaks (N.expression norm.now) self.now.program.now state.old }
+        ensures state { OnOk result (IsStateFor D.width D.listed self.now state.new) }
+        ensures legal { OnOk result
+            (WereLegal D.speaks (N.expression norm.now) self.now.program.now state.new) }
+        ensures passed { IfOk result
+            (IsPassed D.width D.listed D.speaks (N.expression norm.now) number
+            (with_clauses self.now.program.now.clauses self.now.clauses.now) state.old state.new) }
+    {
+        let _program = self.program.clauses();
+        let mut changed = false;
+        for k in self.clauses {
+            let more = self.run_step(alloc, norm, *k, number, state)?;
+            changed |= more;
         }
-        if number <= 3 {
-            number += 1;
+        Ok(changed)
+    }
+
+    /// Passes over the clauses until one changes nothing.
+    pub(crate) fn run_passes<D: Domain, N: Norm>(
+        &self,
+        alloc: Global,
+        norm: &N,
+        state: &mut State<D>,
+    ) -> Result<(), AllocError>
+        requires component { IsComponent self.now }
+        requires state { IsStateFor D.width D.listed self.now state.old }
+        requires legal { WereLegal D.speaks (N.expression norm.now) self.now.program.now state.old }
+        ensures state { OnOk result (IsStateFor D.width D.listed self.now state.new) }
+        ensures legal { OnOk result
+            (WereLegal D.speaks (N.expression norm.now) self.now.program.now state.new) }
+        ensures run { OnOk result
+            (IsRun D.width D.listed D.speaks (N.expression norm.now)
+            (with_clauses self.now.program.now.clauses self.now.clauses.now) state.old state.new) }
+    {
+        let mut number = 1;
+        loop {
+            let changed = self.run_pass(alloc, norm, number, state)?;
+            if !changed {
+                return Ok(());
+            }
+            if number <= 3 {
+                number += 1;
+            }
         }
     }
 }

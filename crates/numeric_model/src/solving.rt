@@ -11,7 +11,7 @@ ghost use Rattle.numeric_model.specs.States.{IsState, own_from, plain_step};
 
 use crate::chain::Chain;
 use crate::clause_lists::own_clauses;
-use crate::running::run_component;
+use crate::in_turn::ComponentClauses;
 use crate::state::State;
 use call_components::Components;
 use cti_terms::Program;
@@ -69,15 +69,13 @@ fn run_all<D: Domain, N: Norm>(
     let own = own_clauses(alloc, p, comps)?;
     let mut state = State::<D>::start(alloc, p)?;
     for c in 0..comps.count() {
-        run_component(
-            alloc,
-            p,
+        let component = ComponentClauses {
+            program: p,
             comps,
-            c,
-            norm,
-            own[c as usize].as_slice(),
-            &mut state,
-        )?;
+            number: c,
+            clauses: own[c as usize].as_slice(),
+        };
+        component.run_passes(alloc, norm, &mut state)?;
     }
     Ok(state)
 }

@@ -10,9 +10,7 @@ use bool_diagrams::{Diagram, Table};
 use cti_terms::{Atom, MOST_VARIABLES};
 use std::alloc::AllocError;
 use term_size::Norm;
-use truth_rows::{
-    ClauseRule, atom_rows, chosen_rows, put_all_off, put_body_off, rows_of_head, without_ended,
-};
+use truth_rows::{ClauseRule, atom_rows, put_all_off, put_body_off, rows_of_head, without_ended};
 
 /// The rows of a set on which an atom of the clause is not in its own set: in `pre` if it is of the head's component, else
 /// in `allowed`.
@@ -36,15 +34,7 @@ fn leaving_rows<N: Norm>(
         × (HasAtom (N.truth norm.now) table.old
         (if own then rule.now.pre.now else rule.now.allowed.now) v atom.now → ⊥))) }
 {
-    let wanted = chosen_rows(
-        norm,
-        table,
-        own,
-        rule.pre,
-        rule.allowed,
-        atom,
-        rule.clause.vars,
-    )?;
+    let wanted = rule.rows_of_call(norm, table, own, atom)?;
     let outside = table.not(wanted)?;
     let rows = table.and(reached, outside)?;
     Ok(rows)

@@ -29,5 +29,5 @@ pub use head_rows::rows_of_head;
 pub use inside::is_inside;
 pub use of_cubes::cube_rows;
 pub use of_modes::admits;
-pub use rules::{ClauseRule, chosen_rows, keeps_rule};
+pub use rules::ClauseRule;
 pub use upper::{upper_rows, upward_union};

@@ -1,12 +1,12 @@
 //! Whether calls stay in sets: the rule of preconditions.
 
-ghost use Rattle.std.specs.Prelude.{◌≡◌, ◌↔◌, ◌≤◌, ◌<◌, ◌-◌, ℕ, Bool, IsTrue, IfOk, if◌then◌else◌, length, slice_get, Some};
+ghost use Rattle.std.specs.Prelude.{◌≡◌, ◌↔◌, ◌≤◌, ◌<◌, ℕ, Bool, IsTrue, IfOk, if◌then◌else◌, length, slice_get, Some};
 ghost use Rattle.truth_rows.specs.Ready.{HasAtom, HasAtoms, IsReady, IsReadyClause};
 ghost use Rattle.truth_rows.specs.Rules.{KeepsSets, same_rank};
 ghost use Rattle.truth_rows.specs.Sets.{AreSets, family_of};
 ghost use Rattle.bool_diagrams.specs.Rows.{IsDiagram, Keeps, holds};
 ghost use Rattle.cti_terms.specs.declared.atom_list.Atom.{Atom};
-ghost use Rattle.cti_terms.specs.declared.clauses.Clause.{Clause};
+ghost use Rattle.cti_terms.specs.Listing.{IsClause};
 
 use crate::atoms::atom_rows;
 use crate::ends::{put_body_off, without_ended};
@@ -15,47 +15,6 @@ use bool_diagrams::{Diagram, Table};
 use cti_terms::{Atom, Clause, MOST_VARIABLES, Program};
 use std::alloc::AllocError;
 use term_size::Norm;
-
-/// Whether a clause keeps the rule of preconditions: from each truth row of the head in `pre`, each call that is
-/// reached has a truth row in turn, in `pre` where its predicate has the rank of the head's, else in `allowed`.
-///
-/// A call is reached where the truth rows of all atoms before it are in `grounds`. Each of the three has a set for each
-/// predicate, and `ranks` a number for each predicate: predicates of one component have one number. Clauses count from 1.
-pub fn keeps_rule<N: Norm>(
-    norm: &N,
-    table: &mut Table,
-    p: &Program,
-    ranks: &[u32],
-    grounds: &[Diagram],
-    pre: &[Diagram],
-    allowed: &[Diagram],
-    k: u32,
-) -> Result<bool, AllocError>
-    requires ranks { length ranks.now ≡ length p.now.preds }
-    requires grounds { AreSets p.now.preds table.old grounds.now }
-    requires pre { AreSets p.now.preds table.old pre.now }
-    requires allowed { AreSets p.now.preds table.old allowed.now }
-    requires first { 1 ≤ k }
-    requires last { k ≤ length p.now.clauses }
-    ensures keeps { Keeps table.old table.new }
-    ensures rule { IfOk result (λ kept. (c : Clause) → slice_get p.now.clauses (k - 1) ≡ Some c
-        → IsTrue kept ↔ KeepsSets (N.truth norm.now)
-        (family_of p.now.preds table.old pre.now)
-        (family_of p.now.preds table.old allowed.now)
-        (family_of p.now.preds table.old grounds.now)
-        (λ q. same_rank ranks.now q c.head.pred.0) c) }
-{
-    // What every program keeps is said by `clauses`: the sets of its atoms are there.
-    let _count = p.clauses();
-    let rule = ClauseRule {
-        ranks,
-        grounds,
-        pre,
-        allowed,
-        clause: p.clause(k),
-    };
-    rule.calls_stay(norm, table)
-}
 
 /// A clause, and the sets of truth rows by which it keeps or breaks the rule of preconditions.
 ///
@@ -74,6 +33,34 @@ pub struct ClauseRule<'a> {
 }
 
 impl ClauseRule<'_> {
+    /// Whether the clause keeps the rule of preconditions: from each truth row of the head in `pre`, each call that is
+    /// reached has a truth row in turn, in `pre` where its predicate has the rank of the head's, else in `allowed`.
+    ///
+    /// A call is reached where the truth rows of all atoms before it are in `grounds`. The clause is one of the program's.
+    pub fn is_kept<N: Norm>(
+        &self,
+        norm: &N,
+        table: &mut Table,
+        p: &Program,
+    ) -> Result<bool, AllocError>
+        requires ranks { length self.now.ranks.now ≡ length p.now.preds }
+        requires grounds { AreSets p.now.preds table.old self.now.grounds.now }
+        requires pre { AreSets p.now.preds table.old self.now.pre.now }
+        requires allowed { AreSets p.now.preds table.old self.now.allowed.now }
+        requires clause { IsClause p.now.preds self.now.clause.now }
+        ensures keeps { Keeps table.old table.new }
+        ensures rule { IfOk result (λ kept. IsTrue kept
+            ↔ KeepsSets (N.truth norm.now)
+            (family_of p.now.preds table.old self.now.pre.now)
+            (family_of p.now.preds table.old self.now.allowed.now)
+            (family_of p.now.preds table.old self.now.grounds.now)
+            (λ q. same_rank self.now.ranks.now q self.now.clause.now.head.pred.0) self.now.clause.now) }
+    {
+        // What every program keeps is said by `clauses`.
+        let _count = p.clauses();
+        self.calls_stay(norm, table)
+    }
+
     /// Whether each call that is reached from the head's set is in its own.
     fn calls_stay<N: Norm>(&self, norm: &N, table: &mut Table) -> Result<bool, AllocError>
         requires head { self.now.clause.now.head.pred.0 < length self.now.ranks.now }
@@ -129,41 +116,31 @@ impl ClauseRule<'_> {
             → HasAtom (N.truth norm.now) table.old
             (if own then self.now.pre.now else self.now.allowed.now) v atom.now)) }
     {
-        let wanted = chosen_rows(
-            norm,
-            table,
-            own,
-            self.pre,
-            self.allowed,
-            atom,
-            self.clause.vars,
-        )?;
+        let wanted = self.rows_of_call(norm, table, own, atom)?;
         is_inside(table, reached, wanted)
     }
-}
 
-/// The rows on which an atom is in one of two sets.
-pub fn chosen_rows<N: Norm>(
-    norm: &N,
-    table: &mut Table,
-    own: bool,
-    pre: &[Diagram],
-    allowed: &[Diagram],
-    atom: &Atom,
-    vars: u32,
-) -> Result<Diagram, AllocError>
-    requires few { vars ≤ MOST_VARIABLES }
-    requires pre { IsReady table.old pre.now vars atom.now }
-    requires allowed { IsReady table.old allowed.now vars atom.now }
-    ensures keeps { Keeps table.old table.new }
-    ensures known { IfOk result (IsDiagram table.new) }
-    ensures rows { IfOk result (λ d. (row : ℕ → Bool)
-        → IsTrue (holds table.new d row)
-        ↔ HasAtom (N.truth norm.now) table.old
-        (if own then pre.now else allowed.now) row atom.now) }
-{
-    if own {
-        return atom_rows(norm, table, pre, atom, vars);
+    /// The rows on which a call is in its set: in `pre` where its predicate is of the head's component, else in `allowed`.
+    pub fn rows_of_call<N: Norm>(
+        &self,
+        norm: &N,
+        table: &mut Table,
+        own: bool,
+        call: &Atom,
+    ) -> Result<Diagram, AllocError>
+        requires few { self.now.clause.now.vars ≤ MOST_VARIABLES }
+        requires pre { IsReady table.old self.now.pre.now self.now.clause.now.vars call.now }
+        requires allowed { IsReady table.old self.now.allowed.now self.now.clause.now.vars call.now }
+        ensures keeps { Keeps table.old table.new }
+        ensures known { IfOk result (IsDiagram table.new) }
+        ensures rows { IfOk result (λ d. (row : ℕ → Bool)
+            → IsTrue (holds table.new d row)
+            ↔ HasAtom (N.truth norm.now) table.old
+            (if own then self.now.pre.now else self.now.allowed.now) row call.now) }
+    {
+        if own {
+            return atom_rows(norm, table, self.pre, call, self.clause.vars);
+        }
+        atom_rows(norm, table, self.allowed, call, self.clause.vars)
     }
-    atom_rows(norm, table, allowed, atom, vars)
 }

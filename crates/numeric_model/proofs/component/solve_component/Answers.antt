@@ -8,31 +8,27 @@ use Rattle.termination_model.specs.chains.Runs.{is_before}
 use Rattle.numeric_model.specs.Running.{IsRun, with_clauses}
 use Rattle.numeric_model.specs.declared.state.State.{State}
 use Rattle.numeric_model.proofs.Below.{part_of, put_state}
-use Rattle.numeric_model.proofs.Chaining.{own_head}
 use Rattle.numeric_model.proofs.Repeats.{none_legal}
 use Rattle.numeric_model.proofs.component.solve_component.Goals as goal
 
-pub run_component-requires-clause-own : goal.run_component-requires-clause-own
-run_component-requires-clause-own g c =
+pub run_passes-requires-clause-component : goal.run_passes-requires-clause-component
+run_passes-requires-clause-component g c =
     let below : c.args.c < length c.in_ok-own.own.items = omega (arith, c.in_ok-own.ensures.each, c.requires.inner) in
     let at : slice_get c.in_ok-own.own.items c.args.c ≡ Some c.index.result.now = there c.in_ok-own.own.items c.args.c c.index.result.now below ∙ ap Some (sym c.index.ensures) in
-    subst (AllByRecursion (λ k. (1 ≤ k) × (k ≤ length c.args.p.now.clauses))) (sym c.as_slice.ensures) (c.in_ok-own.ensures.within c.args.c c.index.result.now at)
+    record {
+      components = c.requires.components;
+      inner = c.requires.inner;
+      within = subst (AllByRecursion (λ k. (1 ≤ k) × (k ≤ length c.args.p.now.clauses))) (sym c.as_slice.ensures) (c.in_ok-own.ensures.within c.args.c c.index.result.now at);
+      clauses_are = ap (with_clauses c.args.p.now.clauses) c.as_slice.ensures ∙ c.in_ok-own.ensures.clauses c.args.c c.index.result.now at;
+    }
 
-pub run_component-requires-clause-heads : goal.run_component-requires-clause-heads
-run_component-requires-clause-heads g c = λ j k x at there'.
-    let below : c.args.c < length c.in_ok-own.own.items = omega (arith, c.in_ok-own.ensures.each, c.requires.inner) in
-    let list : slice_get c.in_ok-own.own.items c.args.c ≡ Some c.index.result.now = there c.in_ok-own.own.items c.args.c c.index.result.now below ∙ ap Some (sym c.index.ensures) in
-    let own : with_clauses c.args.p.now.clauses c.as_slice.result.now ≡ clauses_of c.args.p.now c.args.comps.now c.args.c =
-    ap (with_clauses c.args.p.now.clauses) c.as_slice.ensures ∙ c.in_ok-own.ensures.clauses c.args.c c.index.result.now list in
-    own_head c.args.p.now c.args.comps.now c.clauses-program.ensures.sound c.requires.components c.args.c c.as_slice.result.now own j k x at there'
-
-pub run_component-requires-clause-state : goal.run_component-requires-clause-state
-run_component-requires-clause-state g c =
+pub run_passes-requires-clause-state : goal.run_passes-requires-clause-state
+run_passes-requires-clause-state g c =
     put_state g.D.Domain.width g.D.Domain.listed c.args.p.now c.args.comps.now c.args.c (rows_of c.args.below.now.rows) c.in_ok-state.state _ c.in_ok-state.ensures.state refl refl
     c.in_ok-put_below.ensures.sizes c.in_ok-put_below.ensures.rows
 
-pub run_component-requires-clause-legal : goal.run_component-requires-clause-legal
-run_component-requires-clause-legal g c =
+pub run_passes-requires-clause-legal : goal.run_passes-requires-clause-legal
+run_passes-requires-clause-legal g c =
     let old : State g.row.D.Denot =
     record { sizes = record { rows = c.put_below.new.rows; proofs = c.in_ok-state.state.sizes.proofs }; values = c.in_ok-state.state.values; proofs = c.in_ok-state.state.proofs; steps = c.in_ok-state.state.steps; latest = c.in_ok-state.state.latest } in
     none_legal g.D.Domain.speaks (g.N.Norm.expression c.args.norm.now) c.args.p.now old c.in_ok-state.ensures.steps
@@ -47,8 +43,8 @@ returns g c =
     let old : State g.row.D.Denot =
     record { sizes = record { rows = c.put_below.new.rows; proofs = c.in_ok-state.state.sizes.proofs }; values = c.in_ok-state.state.values; proofs = c.in_ok-state.state.proofs; steps = c.in_ok-state.state.steps; latest = c.in_ok-state.state.latest } in
     part_of g.D.Domain.width g.D.Domain.listed g.D.Domain.speaks (g.N.Norm.expression c.args.norm.now) c.args.p.now c.args.comps.now c.clauses-program.ensures.sound c.requires.components
-    g.met.D.Domain.laws.1 g.met.D.Domain.laws.2 c.args.c (rows_of c.args.below.now.rows) old c.run_component.new.state
-    (subst (λ (ks : List (ℕ × Clause)). IsRun g.D.Domain.width g.D.Domain.listed g.D.Domain.speaks (g.N.Norm.expression c.args.norm.now) ks old c.run_component.new.state) own c.in_ok-run_component.ensures.run)
-    c.in_ok-run_component.ensures.state
+    g.met.D.Domain.laws.1 g.met.D.Domain.laws.2 c.args.c (rows_of c.args.below.now.rows) old c.run_passes.new.state
+    (subst (λ (ks : List (ℕ × Clause)). IsRun g.D.Domain.width g.D.Domain.listed g.D.Domain.speaks (g.N.Norm.expression c.args.norm.now) ks old c.run_passes.new.state) own c.in_ok-run_passes.ensures.run)
+    c.in_ok-run_passes.ensures.state
     (λ i q. (c.in_ok-put_below.ensures.rows q ∙ ap (λ (f : ℕ → List (List ℤ)). if is_before c.args.c (slice_get c.args.comps.now.of q) then rows_of c.args.below.now.rows q else f q) start) i)
     c.in_ok-state.ensures.steps c.into_chain.result c.into_chain.ensures.rows c.into_chain.ensures.proofs c.into_chain.ensures.steps

@@ -41,7 +41,7 @@ note_on-requires-clause-filled g c =
     let there = c.clause-clause.ensures.there in
     let f = c.in_ok-system.ensures in
     let is = of_clause e (rows_of c.args.sizes.now.rows) k c.in_ok-system.system c.len.result c.len.ensures (f.variables k there) (f.rows k there) (f.wide k there) (f.head k there) in
-    subst (λ (m : ℕ). IsFilled m c.args.filled (g.D.Domain.listed c.args.old.now)) (sym (arity_is e (rows_of c.args.sizes.now.rows) k c.in_ok-system.system is)) (c.requires.old k there).known
+    subst (λ (m : ℕ). IsFilled m c.args.old.now.filled (g.D.Domain.listed c.args.old.now.of)) (sym (arity_is e (rows_of c.args.sizes.now.rows) k c.in_ok-system.system is)) (c.requires.old k there).known
 
 pub returns : goal.returns
 returns g c =
@@ -52,13 +52,13 @@ returns g c =
     let f = c.in_ok-system.ensures in
     let s = c.in_ok-system.system in
     let is = of_clause e rows k s c.len.result c.len.ensures (f.variables k there) (f.rows k there) (f.wide k there) (f.head k there) in
-    let d = c.args.old.now in
+    let d = c.args.old.now.of in
     let width = g.D.Domain.width in
     let listed = g.D.Domain.listed in
     let speaks = g.D.Domain.speaks in
-    ok_two (λ x. SaysImage speaks s (plain_rows x.image.value.list) x.image_weak) (λ x. IsStep width listed speaks s c.args.pass (listed d) (plain_rows x.image.value.list) c.args.filled x.stepped)
-    (λ x. (k' : Clause) → slice_get c.args.p.now.clauses (c.args.k - 1) ≡ Some k' → IsNoted width listed speaks e c.args.pass rows k' c.args.k c.args.filled x)
+    ok_two (λ x. SaysImage speaks s (plain_rows x.image.value.list) x.image_weak) (λ x. IsStep width listed speaks s c.args.pass (listed d) (plain_rows x.image.value.list) c.args.old.now.filled x.stepped)
+    (λ x. (k' : Clause) → slice_get c.args.p.now.clauses (c.args.k - 1) ≡ Some k' → IsNoted width listed speaks e c.args.pass rows k' c.args.k c.args.old.now.filled x)
     (λ x says step k' at.
-    subst (λ (y : Clause). IsNoted width listed speaks e c.args.pass rows y c.args.k c.args.filled x) (one_element c.args.p.now.clauses (c.args.k - 1) k k' there at)
-    (noted width listed speaks e c.args.pass rows k c.args.k s is c.args.filled d (c.requires.old k there) x says step))
+    subst (λ (y : Clause). IsNoted width listed speaks e c.args.pass rows y c.args.k c.args.old.now.filled x) (one_element c.args.p.now.clauses (c.args.k - 1) k k' there at)
+    (noted width listed speaks e c.args.pass rows k c.args.k s is c.args.old.now.filled d (c.requires.old k there) x says step))
     c.note_on.result c.note_on.ensures.image c.note_on.ensures.step

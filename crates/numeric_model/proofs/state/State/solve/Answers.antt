@@ -2,42 +2,33 @@ use Rattle.std.proofs.Common.{◌∙◌, ℕ, List, refl, subst}
 use Rattle.cti_terms.specs.declared.clauses.Clause.{Clause}
 use Rattle.numeric_model.specs.Running.{IsRun, rows_in}
 use Rattle.numeric_model.proofs.Below.{part_of}
-use Rattle.numeric_model.proofs.Chaining.{own_head}
 use Rattle.numeric_model.proofs.Readies.{other_rows, ready_more, rows_ready}
 use Rattle.numeric_model.proofs.Repeats.{none_legal}
 use Rattle.numeric_model.proofs.state.State.solve.Goals as goal
 
-pub run_component-requires-clause-own : goal.run_component-requires-clause-own
-run_component-requires-clause-own g c = c.requires.component.within
+pub run_passes-requires-clause-state : goal.run_passes-requires-clause-state
+run_passes-requires-clause-state g c = c.requires.ready.state
 
-pub run_component-requires-clause-heads : goal.run_component-requires-clause-heads
-run_component-requires-clause-heads g c =
-    let own = c.args.own.now in
-    own_head own.program.now own.comps.now c.clauses-program.ensures.sound c.requires.component.components own.number own.clauses.now c.requires.component.clauses_are
-
-pub run_component-requires-clause-state : goal.run_component-requires-clause-state
-run_component-requires-clause-state g c = c.requires.ready.state
-
-pub run_component-requires-clause-legal : goal.run_component-requires-clause-legal
-run_component-requires-clause-legal g c = none_legal g.D.Domain.speaks (g.N.Norm.expression c.args.norm.now) c.args.own.now.program.now c.args.self.now c.requires.ready.none
+pub run_passes-requires-clause-legal : goal.run_passes-requires-clause-legal
+run_passes-requires-clause-legal g c = none_legal g.D.Domain.speaks (g.N.Norm.expression c.args.norm.now) c.args.own.now.program.now c.args.self.now c.requires.ready.none
 
 pub returns-clause-ready : goal.returns-clause-ready
 returns-clause-ready g c =
     let own = c.args.own.now in
-    let run = subst (λ (ks : List (ℕ × Clause)). IsRun g.D.Domain.width g.D.Domain.listed g.D.Domain.speaks (g.N.Norm.expression c.args.norm.now) ks c.args.self.now c.run_component.new.state) c.requires.component.clauses_are c.in_ok-run_component.ensures.run in
-    ready_more g.D.Domain.width g.D.Domain.listed g.D.Domain.speaks (g.N.Norm.expression c.args.norm.now) own.program.now own.comps.now c.clauses-program.ensures.sound c.requires.component.components own.number c.args.self.now c.run_component.new.state run
-    _ c.requires.ready c.in_ok-run_component.ensures.state refl refl refl (c.replace.ensures.after ∙ c.new.ensures)
+    let run = subst (λ (ks : List (ℕ × Clause)). IsRun g.D.Domain.width g.D.Domain.listed g.D.Domain.speaks (g.N.Norm.expression c.args.norm.now) ks c.args.self.now c.run_passes.new.state) c.requires.component.clauses_are c.in_ok-run_passes.ensures.run in
+    ready_more g.D.Domain.width g.D.Domain.listed g.D.Domain.speaks (g.N.Norm.expression c.args.norm.now) own.program.now own.comps.now c.clauses-program.ensures.sound c.requires.component.components own.number c.args.self.now c.run_passes.new.state run
+    _ c.requires.ready c.in_ok-run_passes.ensures.state refl refl refl (c.replace.ensures.after ∙ c.new.ensures)
 
 pub returns-clause-part : goal.returns-clause-part
 returns-clause-part g c =
     let own = c.args.own.now in
-    let run = subst (λ (ks : List (ℕ × Clause)). IsRun g.D.Domain.width g.D.Domain.listed g.D.Domain.speaks (g.N.Norm.expression c.args.norm.now) ks c.args.self.now c.run_component.new.state) c.requires.component.clauses_are c.in_ok-run_component.ensures.run in
+    let run = subst (λ (ks : List (ℕ × Clause)). IsRun g.D.Domain.width g.D.Domain.listed g.D.Domain.speaks (g.N.Norm.expression c.args.norm.now) ks c.args.self.now c.run_passes.new.state) c.requires.component.clauses_are c.in_ok-run_passes.ensures.run in
     part_of g.D.Domain.width g.D.Domain.listed g.D.Domain.speaks (g.N.Norm.expression c.args.norm.now) own.program.now own.comps.now c.clauses-program.ensures.sound c.requires.component.components
-    g.met.D.Domain.laws.1 g.met.D.Domain.laws.2 own.number (rows_in c.args.self.now) c.args.self.now c.run_component.new.state run c.in_ok-run_component.ensures.state
+    g.met.D.Domain.laws.1 g.met.D.Domain.laws.2 own.number (rows_in c.args.self.now) c.args.self.now c.run_passes.new.state run c.in_ok-run_passes.ensures.state
     (rows_ready g.D.Domain.width g.D.Domain.listed own.program.now own.comps.now own.number c.args.self.now c.requires.ready) c.requires.ready.none _ refl refl c.replace.ensures.value
 
 pub returns-clause-others : goal.returns-clause-others
 returns-clause-others g c =
     let own = c.args.own.now in
-    let run = subst (λ (ks : List (ℕ × Clause)). IsRun g.D.Domain.width g.D.Domain.listed g.D.Domain.speaks (g.N.Norm.expression c.args.norm.now) ks c.args.self.now c.run_component.new.state) c.requires.component.clauses_are c.in_ok-run_component.ensures.run in
-    other_rows g.D.Domain.width g.D.Domain.listed g.D.Domain.speaks (g.N.Norm.expression c.args.norm.now) own.program.now own.comps.now c.clauses-program.ensures.sound c.requires.component.components own.number c.args.self.now c.run_component.new.state run
+    let run = subst (λ (ks : List (ℕ × Clause)). IsRun g.D.Domain.width g.D.Domain.listed g.D.Domain.speaks (g.N.Norm.expression c.args.norm.now) ks c.args.self.now c.run_passes.new.state) c.requires.component.clauses_are c.in_ok-run_passes.ensures.run in
+    other_rows g.D.Domain.width g.D.Domain.listed g.D.Domain.speaks (g.N.Norm.expression c.args.norm.now) own.program.now own.comps.now c.clauses-program.ensures.sound c.requires.component.components own.number c.args.self.now c.run_passes.new.state run

@@ -3,25 +3,25 @@ use Rattle.numeric_model.specs.Running.{with_clauses}
 use Rattle.numeric_model.specs.States.{weights}
 use Rattle.numeric_model.proofs.Passes.{running_none, running_more, run_end, smaller}
 use Rattle.numeric_model.proofs.Taking.{weights_few}
-use Rattle.numeric_model.proofs.running.run_component.Goals as goal
+use Rattle.numeric_model.proofs.in_turn.ComponentClauses.run_passes.Goals as goal
 
 pub loop-changed-init : goal.loop-changed-init
 loop-changed-init g c = record {
   state = c.requires.state;
   legal = c.requires.legal;
-  running = running_none g.D.Domain.width g.D.Domain.listed g.D.Domain.speaks (g.N.Norm.expression c.args.norm.now) (with_clauses c.args.p.now.clauses c.args.own.now) c.args.state.now;
+  running = running_none g.D.Domain.width g.D.Domain.listed g.D.Domain.speaks (g.N.Norm.expression c.args.norm.now) (with_clauses c.args.self.now.program.now.clauses c.args.self.now.clauses.now) c.args.state.now;
 }
 
 pub returns-then-not-changed-clause-run : goal.returns-then-not-changed-clause-run
 returns-then-not-changed-clause-run g c =
-    let ks = with_clauses c.args.p.now.clauses c.args.own.now in
+    let ks = with_clauses c.args.self.now.program.now.clauses c.args.self.now.clauses.now in
     let e = g.N.Norm.expression c.args.norm.now in
     let passed = c.in_ok-changed.ensures.passed in
     run_end g.D.Domain.width g.D.Domain.listed g.D.Domain.speaks e ks c.loop-changed.number c.args.state.now c.loop-changed.state c.run_pass.new.state c.loop-changed.invariant.running c.in_ok-changed.changed passed c.if-not-changed.true
 
 pub loop-changed-preserved-then-number-le3 : goal.loop-changed-preserved-then-number-le3
 loop-changed-preserved-then-number-le3 g c =
-    let ks = with_clauses c.args.p.now.clauses c.args.own.now in
+    let ks = with_clauses c.args.self.now.program.now.clauses c.args.self.now.clauses.now in
     let e = g.N.Norm.expression c.args.norm.now in
     let passed = c.in_ok-changed.ensures.passed in
     record {
@@ -33,7 +33,7 @@ loop-changed-preserved-then-number-le3 g c =
 
 pub loop-changed-preserved : goal.loop-changed-preserved
 loop-changed-preserved g c =
-    let ks = with_clauses c.args.p.now.clauses c.args.own.now in
+    let ks = with_clauses c.args.self.now.program.now.clauses c.args.self.now.clauses.now in
     let e = g.N.Norm.expression c.args.norm.now in
     let passed = c.in_ok-changed.ensures.passed in
     record {
@@ -45,7 +45,7 @@ loop-changed-preserved g c =
 
 pub loop-changed-smaller-then-number-le3 : goal.loop-changed-smaller-then-number-le3
 loop-changed-smaller-then-number-le3 g c =
-    let n = length c.args.p.now.preds in
+    let n = length c.args.self.now.program.now.preds in
     let s = c.in_ok-changed.ensures.state in
     let v = weights g.D.Domain.width g.D.Domain.listed c.run_pass.new.state.values.items in
     let w = weights g.D.Domain.width g.D.Domain.listed c.loop-changed.state.values.items in
