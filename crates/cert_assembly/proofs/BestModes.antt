@@ -23,7 +23,7 @@ use Rattle.termination_model.specs.sizes.Rows.{IsUpper}
 use Rattle.termination_model.specs.mappings.View.{all_upper}
 use Rattle.truth_rows.proofs.UpperLaws.{all_from_upper}
 use Rattle.cert_assembly.proofs.ModeLaws.{item_is, member_is, place_below, pre, pre_row, there}
-use Rattle.cert_assembly.specs.ExactModes.{AreCounted, ModesAreExact, PreIsGreatest, is_member}
+use Rattle.cert_assembly.specs.ExactModes.{AreCounted, ModesAreExact, PreIsGreatest, admitted_by, is_member}
 
 any_place : {X : Type 0} (f : X → Bool) (xs : List X) (i : ℕ) (x : X) → slice_get xs i ≡ Some x → f x ≡ true → list_any f xs ≡ true
 any_place f [] i x e h = cc
@@ -67,10 +67,6 @@ some_weaker P Q f [] h = absurd h
 some_weaker P Q f (n ∷ ns) (inl h) = inl (f n h)
 some_weaker P Q f (n ∷ ns) (inr h) = inr (some_weaker P Q f ns h)
 
--- what mappings with their rows admit together
-abbrev pub admitted : List Solved → ℕ → List Bool → Bool
-admitted ns q row = list_any (λ (n : Solved). all_upper (n.1 q) row) ns
-
 module _ (truth : (ℕ → Bool) → Tree → Bool) (p : Listing) (comps : Partition) (parts : Parts)
     (program : IsProgram p) (components : AreComponents p comps) (counted : AreCounted p comps parts) (exact : ModesAreExact truth p comps parts) where
   abbrev pub Keeps : ℕ → Solved → Type 0
@@ -110,7 +106,7 @@ module _ (truth : (ℕ → Bool) → Tree → Bool) (p : Listing) (comps : Parti
 
   -- what some mapping of the list admits is allowed
   no_more : (c q : ℕ) → IsIn comps c q → (ns : List Solved) → AllByRecursion (λ (n : Solved). Keeps c n × IsCovered c q n) ns
-      → (row : List Bool) → HasArity p.preds q (length row) → admitted ns q row ≡ true → IsTrue (allowed p parts q row)
+      → (row : List Bool) → HasArity p.preds q (length row) → admitted_by ns q row ≡ true → IsTrue (allowed p parts q row)
   no_more c q inside [] all row arity h = cc
   no_more c q inside (n ∷ ns) all row arity h = elim (or_cases (all_upper (n.1 q) row) (list_any (λ (n : Solved). all_upper (n.1 q) row) ns) h) [
     | inl one ↦ best_row c q inside n all.0.0 all.0.1 row arity (upper_true (n.1 q) row one)
@@ -120,10 +116,10 @@ module _ (truth : (ℕ → Bool) → Tree → Bool) (p : Listing) (comps : Parti
   -- a mapping of the list that lies within a printed one admits what that one does
   lies_within : (c q : ℕ) (inside : IsIn comps c q) (m : ℕ) (fewer : m < length (items_of parts.preconditions q))
       (cubes : List (List Cell)) → slice_get (items_of parts.preconditions q) m ≡ Some cubes → (row : List Bool) → HasArity p.preds q (length row) → all_upper (cube_row p q cubes) row ≡ true
-      → (ns : List Solved) → SomeSolved (Covers c m) ns → admitted ns q row ≡ true
+      → (ns : List Solved) → SomeSolved (Covers c m) ns → admitted_by ns q row ≡ true
   lies_within c q inside m fewer cubes at row arity h [] some = absurd some
-  lies_within c q inside m fewer cubes at row arity h (n ∷ ns) (inr some) = or_right (all_upper (n.1 q) row) (admitted ns q row) (lies_within c q inside m fewer cubes at row arity h ns some)
-  lies_within c q inside m fewer cubes at row arity h (n ∷ ns) (inl (solved, lies)) = or_left (all_upper (n.1 q) row) (admitted ns q row) (all_from_upper (n.1 q) row uppers)
+  lies_within c q inside m fewer cubes at row arity h (n ∷ ns) (inr some) = or_right (all_upper (n.1 q) row) (admitted_by ns q row) (lies_within c q inside m fewer cubes at row arity h ns some)
+  lies_within c q inside m fewer cubes at row arity h (n ∷ ns) (inl (solved, lies)) = or_left (all_upper (n.1 q) row) (admitted_by ns q row) (all_from_upper (n.1 q) row uppers)
     where
       printed : PreIsGreatest truth p comps parts c m
       printed = pre truth p program comps components parts counted exact c q m inside fewer
@@ -140,7 +136,7 @@ module _ (truth : (ℕ → Bool) → Tree → Bool) (p : Listing) (comps : Parti
           larger printed.family refl q us (member_is truth p program comps components parts counted exact c q inside) long shown
 
   no_less : (c q : ℕ) → IsIn comps c q → (ns : List Solved) → ((m : ℕ) → m < length (items_of parts.levels q) → SomeSolved (Covers c m) ns)
-      → (row : List Bool) → HasArity p.preds q (length row) → allowed p parts q row ≡ true → admitted ns q row ≡ true
+      → (row : List Bool) → HasArity p.preds q (length row) → allowed p parts q row ≡ true → admitted_by ns q row ≡ true
   no_less c q inside ns each row arity h =
       let some = any_of (λ cubes. all_upper (cube_row p q cubes) row) (items_of parts.preconditions q) h in
       let fewer = place_below (items_of parts.preconditions q) some.0 some.1 some.2 in
@@ -149,12 +145,12 @@ module _ (truth : (ℕ → Bool) → Tree → Bool) (p : Listing) (comps : Parti
 
   pub best_modes : (c q : ℕ) (d : Pred) → IsIn comps c q → slice_get p.preds q ≡ Some d
       → (ns : List Solved) → AllByRecursion (λ (n : Solved). Keeps c n × IsCovered c q n) ns → ((m : ℕ) → m < length (items_of parts.levels q) → SomeSolved (Covers c m) ns)
-      → items_of parts.modes q ≡ modes d.arity (admitted ns q)
+      → items_of parts.modes q ≡ modes d.arity (admitted_by ns q)
   best_modes c q d inside at ns all each =
       exact.minimal q d at
-      ∙ modes_same d.arity (allowed p parts q) (admitted ns q) (λ row len.
+      ∙ modes_same d.arity (allowed p parts q) (admitted_by ns q) (λ row len.
       let arity : HasArity p.preds q (length row) = has_arity (slice_get p.preds q) at (length row) (sym len) in
-      same_bool (allowed p parts q row) (admitted ns q row)
+      same_bool (allowed p parts q row) (admitted_by ns q row)
       (no_less c q inside ns each row arity)
       (no_more c q inside ns all row arity))
     where

@@ -2,9 +2,9 @@
 -- What is exact of the modes of a certificate: its ground rows are the least ones, its preconditions the greatest ones,
 -- each spelled in the one way, and its modes are all the minimal ones.
 --
--- To believe: all of this file but `ExactModesHold`.
+-- To believe: all of this file but `admitted_by` and `ExactModesHold`.
 use Rattle.std.specs.Prelude.{◌≡◌, ◌<◌, ℕ, Bool, List, length, slice_get, Some}
-use Rattle.std.specs.List.{AllByRecursion}
+use Rattle.std.specs.List.{AllByRecursion, list_any}
 use Rattle.bool_diagrams.specs.Cubes.{cubes}
 use Rattle.bool_diagrams.specs.declared.cube.Cell.{Cell}
 use Rattle.call_components.specs.Partition.{Partition, AreComponents, IsIn}
@@ -18,7 +18,8 @@ use Rattle.cert_modes.specs.Modes.{allowed, coefficients_of, grounds_of, ModesHo
 pub use Rattle.termination_model.specs.chains.Chain.{is_member}
 use Rattle.termination_model.specs.grounds.Grounds.{Family, IsLeast}
 use Rattle.termination_model.specs.grounds.Modes.{modes}
-use Rattle.precond_fixpoint.specs.Greatest.{IsGreatestIn}
+use Rattle.termination_model.specs.mappings.View.{all_upper}
+use Rattle.precond_fixpoint.specs.Greatest.{IsGreatestIn, Solved}
 
 module _ (truth : (ℕ → Bool) → Tree → Bool) (p : Listing) (comps : Partition) (parts : Parts) where
   -- the ground rows are those of the least family
@@ -39,6 +40,10 @@ module _ (truth : (ℕ → Bool) → Tree → Bool) (p : Listing) (comps : Parti
     pub pres : (c q m : ℕ) → IsIn comps c q → m < length (items_of parts.preconditions q) → PreIsGreatest c m
     -- the modes are the minimal rows that are allowed, all of them and in their order
     pub minimal : (q : ℕ) (d : Pred) → slice_get p.preds q ≡ Some d → items_of parts.modes q ≡ modes d.arity (allowed p parts q)
+
+-- what mappings with their greatest rows admit together
+abbrev pub admitted_by : List Solved → ℕ → List Bool → Bool
+admitted_by ns q row = list_any (λ (n : Solved). all_upper (n.1 q) row) ns
 
 -- there is one list for each predicate
 pub record AreCounted (p : Listing) (comps : Partition) (parts : Parts) : Type 0 where

@@ -4,8 +4,8 @@ ghost use Rattle.std.specs.Prelude.{◌≡◌, ◌<◌, ◌≤◌, ◌++◌, ℕ
 ghost use Rattle.std.specs.List.{AllByRecursion};
 ghost use Rattle.certificate.specs.Text.{positions_text};
 ghost use Rattle.cti_terms.specs.declared.predicates.Pred.{Pred as ThePred};
+ghost use Rattle.cti_terms.specs.Lifts.{IsGoalOf};
 ghost use Rattle.clause_normal.specs.Numbering.{is_equality};
-ghost use Rattle.ld_resolver.specs.Runs.{IsGoalOf};
 ghost use Rattle.cti_top.specs.Answers.{looked_line, looked_status, AnswersLoop};
 ghost use Rattle.cti_top.specs.Known.{known_of, NamesBuiltins};
 ghost use Rattle.cti_top.specs.Loops.{loop_line, no_loop_line, IsTextOfLoop};

@@ -3,8 +3,8 @@
 ghost use Rattle.std.specs.Prelude.{◌≡◌, ◌<◌, ◌≤◌, ℕ, None, length, position, IfOk, IfErr};
 ghost use Rattle.std.specs.List.{AllByRecursion};
 ghost use Rattle.cti_terms.specs.declared.predicates.Pred.{Pred as ThePred};
+ghost use Rattle.cti_terms.specs.Lifts.{IsGoalOf};
 ghost use Rattle.clause_normal.specs.Numbering.{is_equality};
-ghost use Rattle.ld_resolver.specs.Runs.{IsGoalOf};
 ghost use Rattle.cti_top.specs.Queries.{IsQueryOf};
 ghost use Rattle.cti_top.specs.Known.{known_of, NamesBuiltins};
 ghost use Rattle.cti_top.specs.Faults.{IsQueryFault};

@@ -3,8 +3,8 @@
 ghost use Rattle.std.specs.Prelude.{◌≡◌, ◌<◌, ℕ, List, None, length, position, IfOk};
 ghost use Rattle.std.specs.List.{AllByRecursion};
 ghost use Rattle.cti_terms.specs.declared.predicates.Pred.{Pred as ThePred};
+ghost use Rattle.cti_terms.specs.Lifts.{IsGoalOf};
 ghost use Rattle.clause_normal.specs.Numbering.{is_equality};
-ghost use Rattle.ld_resolver.specs.Runs.{IsGoalOf};
 ghost use Rattle.cti_top.specs.Answers.{AnswersQuery, status_of};
 ghost use Rattle.cti_top.specs.Known.{known_of, NamesBuiltins};
 ghost use Rattle.cti_top.specs.Runs.{IsKnown, IsTextOfRun};

@@ -9,11 +9,12 @@ use Rattle.cti_terms.specs.Unify.{Binding}
 use Rattle.cti_terms.specs.UnifyFunction.{unify}
 use Rattle.cti_terms.specs.Resolve.{over, raised, head_equations, answered, resolve}
 use Rattle.cti_terms.specs.Answers.{answer_by}
+use Rattle.cti_terms.specs.Below.{ArgumentsBelow, AtomsBelow}
 use Rattle.ld_resolver.specs.declared.choices.Choice.{Choice}
 use Rattle.unifier.specs.Store.{made, full}
 use Rattle.unifier.specs.Pending.{Extends, KeepsFree, IsUnified}
 use Rattle.ld_resolver.specs.Tails.{tail_at}
-use Rattle.unifier.specs.Below.{ArgumentsBelow, AtomsBelow, FreeFrom}
+use Rattle.unifier.specs.Below.{FreeFrom}
 use Rattle.ld_resolver.specs.Walk.{Visit, walk}
 use Rattle.ld_resolver.specs.Choices.{kept, goal_of, left, IsChoice, AreChoices}
 use Rattle.ld_resolver.specs.Searches.{AreWithin, attempts_at, goal_with, IsTakenAt}

@@ -14,6 +14,7 @@ use Rattle.cti_terms.specs.Answers.{answer_by}
 use Rattle.cti_terms.specs.Unify.{Binding, occurs, applied}
 use Rattle.cti_terms.specs.UnifyFunction.{unify}
 use Rattle.cti_terms.specs.Resolve.{over, passed, resolve}
+use Rattle.cti_terms.specs.Below.{ArgumentsBelow, AtomsBelow}
 use Rattle.cti_terms.proofs.Bounds.{zero_alone}
 use Rattle.cti_terms.proofs.UnifyLaws.{AllBelow, unify_finds}
 use Rattle.ld_resolver.specs.declared.choices.Choice.{Choice}
@@ -26,7 +27,7 @@ use Rattle.unifier.specs.Raised.{raise}
 use Rattle.unifier.specs.Store.{made, full}
 use Rattle.unifier.specs.Pending.{Extends, KeepsFree, IsUnified}
 use Rattle.ld_resolver.specs.Tails.{tail_at}
-use Rattle.unifier.specs.Below.{ArgumentsBelow, AtomsBelow, FreeFrom}
+use Rattle.unifier.specs.Below.{FreeFrom}
 use Rattle.ld_resolver.specs.Walk.{entered, walk_by, walk}
 use Rattle.ld_resolver.specs.Choices.{kept, goal_from, goal_of, left, value_of, args_of, GoesByItself, IsChoice, AreChoices}
 use Rattle.ld_resolver.specs.Searches.{AreWithin, IsEntered, IsTaken, attempts_at, goal_with, left_of}

@@ -13,6 +13,7 @@ use Rattle.cti_terms.specs.Resolve.{over, raised}
 use Rattle.cti_terms.specs.Nodes.{nodes, first_nodes, HasMoreNodes, longest}
 use Rattle.cti_terms.specs.Arithmetic.{begins_wide}
 use Rattle.cti_terms.specs.Answers.{answer_by, answer_of, answers, leaves_wide, visited, visited_nodes, HasWide}
+use Rattle.cti_terms.specs.Below.{TermBelow, ArgumentsBelow, AtomsBelow}
 use Rattle.ld_resolver.specs.declared.answer.Answer.{Answer}
 use Rattle.ld_resolver.specs.declared.running.Ending.{Ending}
 use Rattle.ld_resolver.specs.declared.running.Ending.TheVariants.{Finished, Stopped, Overflow}
@@ -23,7 +24,6 @@ use Rattle.unifier.specs.Raised.{raise}
 use Rattle.unifier.specs.Store.{made, full}
 use Rattle.ld_resolver.specs.Told.{told}
 use Rattle.ld_resolver.specs.Tails.{tail_at}
-use Rattle.unifier.specs.Below.{TermBelow, ArgumentsBelow, AtomsBelow}
 use Rattle.ld_resolver.specs.Measured.{answered_atoms}
 use Rattle.ld_resolver.specs.Walk.{Visit, visit, walk, most_steps, met_answers}
 use Rattle.ld_resolver.specs.declared.choices.Choice.{Choice}

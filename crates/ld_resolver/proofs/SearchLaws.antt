@@ -15,20 +15,22 @@ use Rattle.cti_terms.specs.Unify.{Equation, Binding, applied}
 use Rattle.cti_terms.specs.UnifyFunction.{unify}
 use Rattle.cti_terms.specs.Resolve.{over, raised, head_equations, left_by, answered, passed, resolve_by, resolve_itself, resolve}
 use Rattle.cti_terms.specs.Answers.{answer_by}
+use Rattle.cti_terms.specs.Below.{ArgumentsBelow, AtomsBelow}
 use Rattle.ld_resolver.specs.declared.choices.Choice.{Choice}
 use Rattle.ld_resolver.specs.declared.search.Search.{Search}
 use Rattle.unifier.specs.Raised.{raise}
 use Rattle.unifier.specs.Store.{made, full}
 use Rattle.unifier.specs.Pending.{Extends, KeepsFree}
 use Rattle.ld_resolver.specs.Tails.{tail_at}
-use Rattle.unifier.specs.Below.{ArgumentsBelow, AtomsBelow, FreeFrom}
+use Rattle.unifier.specs.Below.{FreeFrom}
 use Rattle.ld_resolver.specs.Walk.{Visit, entered, walk_by, walk}
 use Rattle.ld_resolver.specs.Choices.{kept, goal_from, goal_of, clauses_left, left, GoesByItself, IsChoice, Within, AreChoices, GrowsTo}
 use Rattle.ld_resolver.specs.FirstArguments.{IsNextMatch}
 use Rattle.ld_resolver.specs.Searches.{attempts_at, AreNumbered, AreMarked, choices_of, goal_at, goal_with, left_of, IsNewest, IsSearch}
 use Rattle.unifier.proofs.StoreLaws.{applied-append, eqb_same}
-use Rattle.unifier.proofs.BelowLaws.{full_raised, applied_below, wider, all_wider, pairs_below, arguments_raised, atoms_over, below_append, not_below}
+use Rattle.unifier.proofs.BelowLaws.{full_raised, applied_below, wider, pairs_below, arguments_raised, atoms_over, not_below}
 use Rattle.cti_terms.proofs.UnifyLaws.{AllBelow, unify_finds}
+use Rattle.cti_terms.proofs.BelowLaws.{all_wider, below_append}
 use Rattle.ld_resolver.proofs.TailLaws.{tail_kept}
 use Rattle.ld_resolver.proofs.ChainLaws.{clause_at}
 

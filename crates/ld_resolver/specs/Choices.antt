@@ -13,12 +13,13 @@ use Rattle.cti_terms.specs.declared.clauses.Clause.{Clause}
 use Rattle.cti_terms.specs.Listing.{Listing, numbered}
 use Rattle.cti_terms.specs.Unify.{Binding}
 use Rattle.cti_terms.specs.Resolve.{over, raised}
+use Rattle.cti_terms.specs.Below.{AtomsBelow}
 use Rattle.ld_resolver.specs.declared.choices.Choice.{Choice}
 use Rattle.ld_resolver.specs.declared.choices.Start.{Start}
 use Rattle.ld_resolver.specs.BuiltinAtoms.{value_equations, IsInteger}
 use Rattle.unifier.specs.Store.{made, full}
 use Rattle.ld_resolver.specs.Tails.{tail_at}
-use Rattle.unifier.specs.Below.{AtomsBelow, FreeFrom}
+use Rattle.unifier.specs.Below.{FreeFrom}
 use Rattle.ld_resolver.specs.Walk.{Visit, walk_by, walk}
 
 -- the first bindings that were made, m of them

@@ -9,7 +9,6 @@ pub mod Measured
 pub mod Told
 pub mod AnswerCode
 pub mod Progress
-pub mod Runs
 pub mod Order
 pub mod Count
 pub mod Values

@@ -7,6 +7,7 @@ use Rattle.cti_terms.specs.Arithmetic.{begins_wide}
 use Rattle.cti_terms.specs.Listing.{Listing}
 use Rattle.cti_terms.specs.Nodes.{HasMoreNodes, longest}
 use Rattle.cti_terms.specs.Answers.{answer_by, answers, visited_nodes, HasWide}
+use Rattle.cti_terms.specs.Lifts.{IsGoalOf}
 use Rattle.ld_resolver.specs.declared.answer.Answer.{Answer}
 use Rattle.ld_resolver.specs.declared.running.Ending.{Ending}
 use Rattle.ld_resolver.specs.declared.running.Ending.TheVariants.{Finished, Stopped, Overflow}
@@ -18,7 +19,6 @@ use Rattle.ld_resolver.specs.declared.running.Progress.TheVariants.{UnderWay, An
 use Rattle.ld_resolver.specs.declared.running.Running.{Running}
 use Rattle.ld_resolver.specs.declared.search.Search.{Search}
 use Rattle.ld_resolver.specs.Chain.{IsChain}
-use Rattle.ld_resolver.specs.Runs.{IsGoalOf}
 use Rattle.ld_resolver.specs.Told.{told}
 use Rattle.ld_resolver.specs.Measured.{answered_atoms}
 use Rattle.ld_resolver.specs.Walk.{Visit, walk, most_steps, met_answers}

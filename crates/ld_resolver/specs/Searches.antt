@@ -10,6 +10,7 @@ use Rattle.cti_terms.specs.Listing.{Listing, IsProgram, IsClause, numbered}
 use Rattle.cti_terms.specs.Unify.{Binding}
 use Rattle.cti_terms.specs.Resolve.{over, raised}
 use Rattle.cti_terms.specs.Answers.{answer_by}
+use Rattle.cti_terms.specs.Below.{AtomsBelow}
 use Rattle.ld_resolver.specs.declared.choices.Choice.{Choice}
 use Rattle.ld_resolver.specs.declared.choices.Start.{Start}
 use Rattle.ld_resolver.specs.declared.search.Taken.{Taken}
@@ -22,7 +23,7 @@ use Rattle.ld_resolver.specs.declared.search.Entered.TheVariants.{Empty, Open, W
 use Rattle.ld_resolver.specs.declared.search.Search.{Search}
 use Rattle.unifier.specs.Store.{made, full}
 use Rattle.ld_resolver.specs.Tails.{tail_at}
-use Rattle.unifier.specs.Below.{AtomsBelow, FreeFrom}
+use Rattle.unifier.specs.Below.{FreeFrom}
 use Rattle.ld_resolver.specs.Walk.{Visit, walk}
 use Rattle.ld_resolver.specs.Choices.{kept, goal_from, left, AreChoices}
 use Rattle.ld_resolver.specs.FirstArguments.{IsNextMatch}

@@ -5,7 +5,7 @@ ghost use Rattle.ld_resolver.specs.BuiltinAtoms.{value_equations, IsInteger};
 ghost use Rattle.ld_resolver.specs.Choices.{value_of, args_of};
 ghost use Rattle.unifier.specs.Store.{made};
 ghost use Rattle.unifier.specs.Pending.{IsUnified, Extends, KeepsFree};
-ghost use Rattle.unifier.specs.Below.{ArgumentsBelow};
+ghost use Rattle.cti_terms.specs.Below.{ArgumentsBelow};
 
 use crate::choices::Choice;
 use std::alloc::AllocError;

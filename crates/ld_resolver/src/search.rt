@@ -2,7 +2,8 @@
 
 ghost use Rattle.std.specs.Prelude.{◌≡◌, ℕ, ◌≤◌, ◌<◌, ◌+◌, ◌++◌, [], ◌∷◌, IfOk, OnOk, length, map, reverse};
 ghost use Rattle.cti_terms.specs.Resolve.{raised};
-ghost use Rattle.unifier.specs.Below.{AtomsBelow, FreeFrom};
+ghost use Rattle.cti_terms.specs.Below.{AtomsBelow};
+ghost use Rattle.unifier.specs.Below.{FreeFrom};
 ghost use Rattle.ld_resolver.specs.Chain.{IsChain};
 ghost use Rattle.ld_resolver.specs.Tails.{tail_at};
 ghost use Rattle.ld_resolver.specs.Told.{told};

@@ -10,7 +10,7 @@ use Rattle.cert_assembly.proofs.ModeLaws.{item_is, of_member, there}
 use Rattle.cert_assembly.proofs.PartShapes.{all_weaker, leads, list_is, measured, unmapped}
 use Rattle.cert_assembly.proofs.SetParts.{below_or, listed_past}
 use Rattle.cert_assembly.proofs.SetSteps.{first_there, in_if, in_rest, not_first}
-use Rattle.cert_assembly.specs.ExactModes.{AreCounted, is_member}
+use Rattle.cert_assembly.specs.ExactModes.{AreCounted, admitted_by, is_member}
 use Rattle.cert_assembly.specs.Leading.{led_by}
 use Rattle.cert_checker.proofs.Bounded.{naturals_are}
 use Rattle.cert_structure.specs.Order.{pred_text}
@@ -53,7 +53,7 @@ use Rattle.termination_model.specs.sizes.Sizes.{rows_of}
 use Rattle.lex_measures.proofs.ComponentLaws.{answer_at, member_below}
 use Rattle.lex_measures.proofs.ListParts.{union_items}
 use Rattle.lex_measures.specs.Exact.{ComponentIsExact, IsExact, component_notes, note_at, note_if, noted, parts_in}
-use Rattle.lex_measures.specs.Unnoted.{HaveEachSupport, IsSolvedList, UnnotedListsAreBest, admitted_by}
+use Rattle.lex_measures.specs.Unnoted.{HaveEachSupport, IsSolvedList, UnnotedListsAreBest}
 
 is_less : (n : ℕ) → 0 < n → nat_lt 0 n ≡ true
 is_less n h = grind (arith, nat_tests)

@@ -4,10 +4,10 @@
 --
 -- To believe: nothing. The law leads from a whole certificate to what all lists that descend give together. A component
 -- of more than 12 argument positions is left out, since not all its supports are looked at.
-use Rattle.std.specs.Prelude.{◌≡◌, ◌<◌, ◌≤◌, ◌↔◌, ℕ, Bool, true, IsTrue, List, length, slice_get, Some}
-use Rattle.std.specs.List.{AllByRecursion, list_any}
+use Rattle.std.specs.Prelude.{◌≡◌, ◌<◌, ◌≤◌, ◌↔◌, ℕ, true, IsTrue, List, length, slice_get, Some}
+use Rattle.std.specs.List.{AllByRecursion}
 use Rattle.call_components.specs.Partition.{IsIn, Partition}
-use Rattle.cert_assembly.specs.ExactModes.{is_member}
+use Rattle.cert_assembly.specs.ExactModes.{admitted_by, is_member}
 use Rattle.cert_modes.specs.Modes.{allowed, grounds_of}
 use Rattle.cert_structure.specs.Order.{pred_text}
 use Rattle.cert_structure.specs.Shape.{first_of, is_recursive, items_of}
@@ -26,7 +26,6 @@ use Rattle.termination_model.specs.mappings.Coefficients.{IsSupported, coefficie
 use Rattle.termination_model.specs.mappings.ComponentViews.{positions_in}
 use Rattle.termination_model.specs.grounds.Modes.{modes}
 use Rattle.termination_model.specs.sizes.Sizes.{rows_of}
-use Rattle.termination_model.specs.mappings.View.{all_upper}
 use Rattle.lex_measures.specs.Exact.{IsExact}
 
 module _ (p : Listing) (comps : Partition) (parts : LexParts) (c : ℕ) where
@@ -41,10 +40,6 @@ module _ (p : Listing) (comps : Partition) (parts : LexParts) (c : ℕ) where
   -- each support of a list that descends is that of one of these
   abbrev pub HaveEachSupport : List Solved → Type 0
   HaveEachSupport ns = (s : List ℕ) → HasList size_row p comps (rows_of parts.rows) c s → SomeSolved (λ (n : Solved). (solved : IsSolvedList n) × (solved.support ≡ s)) ns
-
--- what lists with their greatest rows admit together
-abbrev pub admitted_by : List Solved → ℕ → List Bool → Bool
-admitted_by ns q row = list_any (λ (n : Solved). all_upper (n.1 q) row) ns
 
 -- then the modes of each member are those that any lists that descend give, in which each support occurs
 abbrev pub UnnotedListsAreBest : Type 0

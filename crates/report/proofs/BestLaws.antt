@@ -21,9 +21,9 @@ use Rattle.termination_model.specs.grounds.Minimal.{IsSet}
 use Rattle.termination_model.proofs.Having.{support_set}
 use Rattle.termination_model.proofs.Sets.{Part, to_part, within}
 use Rattle.precond_fixpoint.specs.Greatest.{KeepsIn, Solved, IsWithinIn}
-use Rattle.cert_assembly.specs.ExactModes.{is_member, ModesAreExact, AreCounted}
+use Rattle.cert_assembly.specs.ExactModes.{admitted_by, is_member, ModesAreExact, AreCounted}
 use Rattle.termination_model.specs.mappings.ComponentViews.{positions_in}
-use Rattle.report.specs.ExactMappings.{mapping_in, printed_support, HasMapping, MappingsAreExact, BestOverMappings, admitted_by, IsSolvedMapping, HaveEachSupport, BestModes}
+use Rattle.report.specs.ExactMappings.{mapping_in, printed_support, HasMapping, MappingsAreExact, BestOverMappings, IsSolvedMapping, HaveEachSupport, BestModes}
 use Rattle.cert_assembly.proofs.BestModes.{Covers, IsCovered, Keeps, best_modes, best_row, some_weaker}
 use Rattle.cert_assembly.proofs.PartShapes.{all_weaker}
 use Rattle.cert_assembly.proofs.SetSteps.{first_there, in_if, in_rest, not_first}
@@ -109,7 +109,7 @@ module _ (truth : (ℕ → Bool) → Tree → Bool) (expression : ℕ → Tree �
 
   best_of_list : (c q : ℕ) (d : Pred) → IsIn comps c q → slice_get p.preds q ≡ Some d → MappingsAreExact expression p comps parts c q []
       → (ns : List Solved) → AllByRecursion (IsSolvedMapping expression p comps parts truth c) ns → HaveEachSupport expression p comps parts truth c ns
-      → items_of parts.modes q ≡ modes d.arity (admitted_by expression p comps parts truth ns q)
+      → items_of parts.modes q ≡ modes d.arity (admitted_by ns q)
   best_of_list c q d inside at mappings ns all each =
       best_modes truth p comps parts program components counted exact c q d inside at ns
       (all_weaker (IsSolvedMapping expression p comps parts truth c) (λ (n : Solved). Keeps truth p comps parts program components counted exact c n × IsCovered truth p comps parts program components counted exact c q n)

@@ -24,8 +24,8 @@ use Rattle.termination_model.proofs.Points.{in_columns}
 use Rattle.termination_model.specs.mappings.ComponentViews.{members_in, positions_in}
 use Rattle.termination_model.specs.grounds.Modes.{chosen_up_to, modes}
 use Rattle.report.specs.Exact.{IsExact}
-use Rattle.report.specs.ExactMappings.{admitted_by, HaveEachSupport, IsSolvedMapping, MappingsAreExact, printed_support}
-use Rattle.cert_assembly.specs.ExactModes.{AreCounted}
+use Rattle.report.specs.ExactMappings.{HaveEachSupport, IsSolvedMapping, MappingsAreExact, printed_support}
+use Rattle.cert_assembly.specs.ExactModes.{admitted_by, AreCounted}
 use Rattle.report.specs.SupportNotes.{arguments_by_member, blown_at, blown_note, blown_notes, large_at, large_notes, support_notes}
 use Rattle.cert_assembly.specs.Leading.{led_by}
 use Rattle.report.specs.Unnoted.{IsUnnoted, UnnotedAreBest}
@@ -150,7 +150,7 @@ module _ (p : Listing) (names : List (List ℕ)) (facts : List Fact) (program : 
 
   best : (r : ℕ) (d : Pred) → IsIn exact.comps c r → slice_get p.preds r ≡ Some d
       → (ns : List Solved) → AllByRecursion (IsSolvedMapping (any_row norm) p exact.comps exact.parts (any_truth norm) c) ns → HaveEachSupport (any_row norm) p exact.comps exact.parts (any_truth norm) c ns
-      → items_of exact.parts.modes r ≡ modes d.arity (admitted_by (any_row norm) p exact.comps exact.parts (any_truth norm) ns r)
+      → items_of exact.parts.modes r ≡ modes d.arity (admitted_by ns r)
   best r d ir at ns all each =
       let counts = levels_together p exact.comps exact.parts exact.components exact.structured.shape c q r inside ir in
       best_modes_are_printed (any_truth norm) (any_row norm) p exact.comps exact.parts program exact.components

@@ -5,7 +5,7 @@
 -- To believe: all of this file but `BestOverMappings` and `BestModes`. Sets of positions are ascending lists of their
 -- numbers, from 1 on, where the positions go by predicate number and argument.
 use Rattle.std.specs.Prelude.{◌≡◌, ◌<◌, ℕ, ℤ, Bool, true, IsTrue, if◌then◌else◌, List, [], length, map, slice_get, Some, ◌⊎◌}
-use Rattle.std.specs.List.{AllByRecursion, list_any}
+use Rattle.std.specs.List.{AllByRecursion}
 use Rattle.call_components.specs.Partition.{Partition, AreComponents, IsIn}
 use Rattle.cert_structure.specs.Shape.{items_of}
 use Rattle.cert_structure.specs.declared.parts.Parts.{Parts}
@@ -26,9 +26,9 @@ use Rattle.termination_model.specs.mappings.Refutation.{Decreases}
 use Rattle.termination_model.specs.sizes.Rows.{IsUpper}
 use Rattle.termination_model.specs.sizes.Sizes.{rows_of}
 use Rattle.termination_model.specs.mappings.Supports.{support_from}
-use Rattle.termination_model.specs.mappings.View.{Rule, all_upper}
+use Rattle.termination_model.specs.mappings.View.{Rule}
 use Rattle.precond_fixpoint.specs.Greatest.{KeepsIn, IsGreatestIn, Solved, SomeSolved}
-use Rattle.cert_assembly.specs.ExactModes.{is_member, ModesAreExact, AreCounted}
+use Rattle.cert_assembly.specs.ExactModes.{admitted_by, is_member, ModesAreExact, AreCounted}
 
 module _ (expression : ℕ → Tree → List ℤ) (p : Listing) (comps : Partition) (parts : Parts) where
   -- the component c, as its mappings see it
@@ -67,10 +67,6 @@ module _ (expression : ℕ → Tree → List ℤ) (p : Listing) (comps : Partiti
         → (n : Solved) (s : List ℕ) (has : HasMapping c s) → ((r : ℕ) → is_member comps c r ≡ true → n.0 r ≡ has.mapping.coefficients r)
         → KeepsIn truth p (is_member comps c) (allowed p parts) (grounds_of p parts) n.0 n.1
         → (row : List Bool) → HasArity p.preds q (length row) → ((us : List Bool) → IsUpper us row → IsTrue (n.1 q us)) → IsTrue (allowed p parts q row)
-
-    -- what mappings with their greatest rows admit together
-    abbrev pub admitted_by : List Solved → ℕ → List Bool → Bool
-    admitted_by ns q row = list_any (λ (n : Solved). all_upper (n.1 q) row) ns
 
     -- a decreasing mapping of the component, with its greatest rows
     pub record IsSolvedMapping (c : ℕ) (n : Solved) : Type 0 where

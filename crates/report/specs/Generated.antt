@@ -1,5 +1,5 @@
 -- To believe, for the command.
--- The text of a program of the given number of predicates, for trying the analysis at any size. Predicate k is named p
+-- The text of a program of the given number of predicates, for trying the analysis on larger programs. Predicate k is named p
 -- with the number k.
 --
 -- Predicates come by threes: one appends lists, the next reverses a list by the one before, and the third reverses it

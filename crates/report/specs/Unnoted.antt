@@ -6,6 +6,7 @@
 use Rattle.std.specs.Prelude.{◌≡◌, ℕ, IsTrue, List, slice_get, Some}
 use Rattle.std.specs.List.{AllByRecursion}
 use Rattle.call_components.specs.Partition.{IsIn}
+use Rattle.cert_assembly.specs.ExactModes.{admitted_by}
 use Rattle.cert_checker.specs.Norms.{norm_in}
 use Rattle.cert_structure.specs.Order.{pred_text}
 use Rattle.cert_structure.specs.Shape.{first_of, is_recursive, items_of}
@@ -18,7 +19,7 @@ use Rattle.precond_fixpoint.specs.Greatest.{Solved}
 use Rattle.term_size.specs.AnyNorm.{any_row, any_truth}
 use Rattle.termination_model.specs.grounds.Modes.{modes}
 use Rattle.report.specs.Exact.{IsExact}
-use Rattle.report.specs.ExactMappings.{admitted_by, HaveEachSupport, IsSolvedMapping}
+use Rattle.report.specs.ExactMappings.{HaveEachSupport, IsSolvedMapping}
 
 -- no fact says of the component that q leads that a support was given up, or that it has too many positions to try all
 pub record IsUnnoted (p : Listing) (names : List (List ℕ)) (q : ℕ) (facts : List Fact) : Type 0 where
@@ -35,4 +36,4 @@ UnnotedAreBest =
     (c q : ℕ) → IsIn comps c q → IsTrue (is_recursive comps q) → first_of comps q ≡ q → IsUnnoted p names q facts
     → (r : ℕ) (d : Pred) → IsIn comps c r → slice_get p.preds r ≡ Some d
     → (ns : List Solved) → AllByRecursion (IsSolvedMapping (any_row norm) p comps parts (any_truth norm) c) ns → HaveEachSupport (any_row norm) p comps parts (any_truth norm) c ns
-    → items_of parts.modes r ≡ modes d.arity (admitted_by (any_row norm) p comps parts (any_truth norm) ns r))
+    → items_of parts.modes r ≡ modes d.arity (admitted_by ns r))

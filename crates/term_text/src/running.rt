@@ -1,7 +1,7 @@
 //! The text of a run, which is written while the run goes on.
 
 ghost use Rattle.std.specs.Prelude.{IfOk};
-ghost use Rattle.ld_resolver.specs.Runs.{IsGoalOf};
+ghost use Rattle.cti_terms.specs.Lifts.{IsGoalOf};
 ghost use Rattle.term_text.specs.WholeRun.{IsRunText};
 
 use crate::run_lines::{push_answer, push_ran};

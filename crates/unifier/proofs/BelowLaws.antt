@@ -9,9 +9,10 @@ use Rattle.cti_terms.specs.Unify.{Equation, Binding, Dropped, Bound, Split, Fail
 use Rattle.cti_terms.specs.UnifyFunction.{occurs_in}
 use Rattle.cti_terms.specs.declared.atom_list.Atom.{Atom}
 use Rattle.cti_terms.specs.Resolve.{over}
+use Rattle.cti_terms.specs.Below.{TermBelow, ArgumentsBelow, AtomsBelow}
 use Rattle.cti_terms.proofs.UnifyLaws.{comes, binds, bind_inside, replaced_inside, AllBelow}
 use Rattle.cti_terms.proofs.Unifier.{absent, instance_same, instance_twice, applied_instance}
-use Rattle.unifier.specs.Below.{TermBelow, ArgumentsBelow, AtomsBelow, FreeFrom, LeftBelow}
+use Rattle.unifier.specs.Below.{FreeFrom, LeftBelow}
 use Rattle.unifier.specs.Raised.{raise}
 use Rattle.unifier.specs.Store.{made, full}
 use Rattle.unifier.proofs.StoreLaws.{full_free}
@@ -52,10 +53,6 @@ pub wider : (m n : ℕ) (ts : List Tree) → m ≤ n → ArgumentsBelow m ts →
 wider m n [] l h = h
 wider m n (t ∷ ts) l h = ((λ y o. let k = h.0 y o in omega (arith, l, k)), wider m n ts l h.1)
 
-pub all_wider : (m n : ℕ) (xs : List Atom) → m ≤ n → AtomsBelow m xs → AtomsBelow n xs
-all_wider m n [] l h = h
-all_wider m n (a ∷ xs) l h = (wider m n a.args l h.0, all_wider m n xs l h.1)
-
 -- equations of arguments below n
 pub pairs_below : (n : ℕ) (ts us : List Tree) → ArgumentsBelow n ts → ArgumentsBelow n us → AllBelow n (pairs (trees ts) (trees us))
 pairs_below n [] us h k y o = cc
@@ -79,10 +76,6 @@ arguments_over n f (t ∷ ts) k h = (k t h.0, arguments_over n f ts k h.1)
 pub atoms_over : (n : ℕ) (f : Tree → Tree) (xs : List Atom) → ((t : Tree) → TermBelow n t → TermBelow n (f t)) → AtomsBelow n xs → AtomsBelow n (map (over f) xs)
 atoms_over n f [] k h = tt
 atoms_over n f (a ∷ xs) k h = (arguments_over n f a.args k h.0, atoms_over n f xs k h.1)
-
-pub below_append : (n : ℕ) (xs bs : List Atom) → AtomsBelow n xs → AtomsBelow n bs → AtomsBelow n (xs ++ bs)
-below_append n [] bs h k = k
-below_append n (a ∷ xs) bs h k = (h.0, below_append n xs bs h.1 k)
 
 -- terms from a counter on stay under the bindings
 pub full_raised : (s : List Binding) (n : ℕ) (t : Tree) → FreeFrom n s → full s (instance (raise n) t) ≡ instance (raise n) t

@@ -7,11 +7,12 @@ use Rattle.cti_terms.specs.declared.syntax.Term.{Term}
 use Rattle.cti_terms.specs.Spell.{tree_of, trees_of}
 use Rattle.cti_terms.specs.Unify.{Equation, Binding, Dropped, Bound, Split, Failed, first_step, occurs, pairs}
 use Rattle.cti_terms.specs.UnifyFunction.{unify, occurs_in}
+use Rattle.cti_terms.specs.Below.{TermBelow}
 use Rattle.cti_terms.proofs.UnifyLaws.{unify_finds}
 use Rattle.unifier.specs.declared.raised_term.RaisedTerm.{RaisedTerm}
 use Rattle.unifier.specs.Raised.{raise, raised_tree}
 use Rattle.unifier.specs.Store.{made, full}
-use Rattle.unifier.specs.Below.{TermBelow, LeftBelow}
+use Rattle.unifier.specs.Below.{LeftBelow}
 use Rattle.unifier.specs.Pending.{under_bindings, waiting_from, IsUnified, StaysBelow, Extends, KeepsFree}
 use Rattle.unifier.specs.Heads.{pair, IsPairUnified, IsUnifiedTo}
 use Rattle.unifier.proofs.BelowLaws.{left_bound, left_wider}

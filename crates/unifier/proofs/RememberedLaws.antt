@@ -5,6 +5,7 @@ use Rattle.std.specs.List.{AllByRecursion}
 use Rattle.cti_terms.specs.Tree.{Tree, Trees, Variable, Integer, Compound, End, More, instance, arity}
 use Rattle.cti_terms.specs.Unify.{Equation, Binding, Dropped, Bound, Split, Failed, first_step, only, pairs, replaced}
 use Rattle.cti_terms.specs.UnifyFunction.{unify, work}
+use Rattle.cti_terms.specs.MostGeneral.{Solves}
 use Rattle.cti_terms.proofs.Unifier.{instance_same, instance_twice, ties, same_split}
 use Rattle.cti_terms.proofs.UnifyLaws.{nodes_positive}
 use Rattle.unifier.specs.declared.equal_pairs.EqualPairs.{EqualPairs}
@@ -12,7 +13,7 @@ use Rattle.unifier.specs.declared.equal_pairs.OpenPair.{OpenPair}
 use Rattle.unifier.specs.declared.raised_term.RaisedTerm.{RaisedTerm}
 use Rattle.unifier.specs.Raised.{raised_tree}
 use Rattle.unifier.specs.Store.{full}
-use Rattle.unifier.specs.Remembered.{Solves, Entails, above, AreEqual, IsEntailed, AreRemembered}
+use Rattle.unifier.specs.Remembered.{Entails, above, AreEqual, IsEntailed, AreRemembered}
 use Rattle.unifier.proofs.StoreLaws.{full_more, eqb_same}
 use Rattle.unifier.proofs.PendingLaws.{step_same_integers, step_variables}
 use Rattle.unifier.proofs.UnifySteps.{unify_step}

@@ -6,6 +6,7 @@ use Rattle.cti_terms.specs.declared.syntax.Term.{Term}
 use Rattle.cti_terms.specs.Spell.{trees_of}
 use Rattle.cti_terms.specs.Unify.{Equation, Binding, Step, occurs, pairs, replaced}
 use Rattle.cti_terms.specs.UnifyFunction.{unify, occurs_in}
+use Rattle.cti_terms.specs.Below.{TermBelow}
 use Rattle.unifier.specs.declared.raised_term.RaisedTerm.{RaisedTerm}
 use Rattle.unifier.specs.declared.unification.Found.{Found}
 use Rattle.unifier.specs.declared.unification.Found.TheVariants.{Nothing, Binds, Arguments, Clash}
@@ -13,7 +14,7 @@ use Rattle.unifier.specs.declared.unification.Next.{Next}
 use Rattle.unifier.specs.declared.unification.Next.TheVariants.{Solved, Failed, Bound}
 use Rattle.unifier.specs.Raised.{raised_tree, raise}
 use Rattle.unifier.specs.Store.{stored, full, all_full, MayBind}
-use Rattle.unifier.specs.Below.{TermBelow, LeftBelow}
+use Rattle.unifier.specs.Below.{LeftBelow}
 
 -- the trees of raised terms
 abbrev pub raw : List RaisedTerm → List Tree

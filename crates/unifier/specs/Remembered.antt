@@ -4,6 +4,7 @@ use Rattle.std.specs.Prelude.{◌≡◌, ℕ, ◌-◌, List, ◌∷◌, take, le
 use Rattle.std.specs.List.{AllByRecursion}
 use Rattle.cti_terms.specs.Tree.{Tree, instance}
 use Rattle.cti_terms.specs.Unify.{Equation, Binding}
+use Rattle.cti_terms.specs.MostGeneral.{Solves}
 use Rattle.unifier.specs.declared.equal_pairs.EqualPairs.{EqualPairs}
 use Rattle.unifier.specs.declared.equal_pairs.OpenPair.{OpenPair}
 use Rattle.unifier.specs.declared.raised_term.RaisedTerm.{RaisedTerm}
@@ -12,10 +13,6 @@ use Rattle.unifier.specs.declared.unification.Next.TheVariants.{Solved, Failed, 
 use Rattle.unifier.specs.Raised.{raised_tree}
 use Rattle.unifier.specs.Store.{full}
 use Rattle.unifier.specs.Pending.{waiting}
-
--- a substitution makes both sides of each equation the same
-abbrev pub Solves : (ℕ → Tree) → List Equation → Type 0
-Solves a = AllByRecursion (λ (e : Equation). instance a e.0 ≡ instance a e.1)
 
 -- each substitution that solves the equations makes two terms the same
 abbrev pub Entails : List Equation → Tree → Tree → Type 0

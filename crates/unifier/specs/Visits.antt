@@ -5,12 +5,12 @@ use Rattle.std.specs.List.{AllByRecursion}
 use Rattle.cti_terms.specs.Tree.{Tree, Variable, Compound, all_instances, nodes_of}
 use Rattle.cti_terms.specs.Spell.{trees_of}
 use Rattle.cti_terms.specs.Unify.{Binding, occurs}
+use Rattle.cti_terms.specs.Below.{TermBelow}
 use Rattle.unifier.specs.declared.raised_term.RaisedTerm.{RaisedTerm}
 use Rattle.unifier.specs.declared.occurs_check.Arguments.{Arguments}
 use Rattle.unifier.specs.Raised.{raise, raised_tree}
 use Rattle.unifier.specs.Store.{full, chain_of, IsOpen}
 use Rattle.unifier.specs.Pending.{occurs_left}
-use Rattle.unifier.specs.Below.{TermBelow}
 use Rattle.unifier.specs.declared.occurs_check.Occurrence.{Occurrence}
 use Rattle.unifier.specs.declared.occurs_check.Occurrence.TheVariants.{Found, Below}
 

@@ -4,12 +4,13 @@ ghost use Rattle.std.specs.Prelude.{◌≡◌, ◌≤◌, ◌<◌, ◌+◌, ◌+
 ghost use Rattle.std.specs.List.{AllByRecursion};
 ghost use Rattle.cti_terms.specs.Tree.{is_below};
 ghost use Rattle.cti_terms.specs.Resolve.{over, raised, head_equations};
+ghost use Rattle.cti_terms.specs.Below.{TermBelow, ArgumentsBelow};
 ghost use Rattle.unifier.specs.Store.{full, made};
 ghost use Rattle.unifier.specs.Heads.{IsIntegerTree, IsPairUnified};
 ghost use Rattle.unifier.specs.Shapes.{IsMet};
 ghost use Rattle.unifier.specs.Raised.{raised_tree};
 ghost use Rattle.unifier.specs.Pending.{IsUnified, StaysBelow, Extends, KeepsFree, waiting_from};
-ghost use Rattle.unifier.specs.Below.{TermBelow, ArgumentsBelow, LeftBelow, FreeFrom};
+ghost use Rattle.unifier.specs.Below.{LeftBelow, FreeFrom};
 
 use crate::bindings::Bindings;
 use crate::equal_pairs::EqualPairs;

@@ -5,10 +5,11 @@ ghost use Rattle.cti_terms.specs.Tree.{all_instances, Variable, Integer, Compoun
 ghost use Rattle.cti_terms.specs.Spell.{trees_of};
 ghost use Rattle.cti_terms.specs.Unify.{Binding, Equation, first_step, bound, occurs, pairs};
 ghost use Rattle.cti_terms.specs.UnifyFunction.{unify};
+ghost use Rattle.cti_terms.specs.Below.{TermBelow};
 ghost use Rattle.unifier.specs.Raised.{raise, raised_tree};
 ghost use Rattle.unifier.specs.Shapes.{IsMet};
 ghost use Rattle.unifier.specs.Store.{stored, full, made, IsOpen};
-ghost use Rattle.unifier.specs.Below.{TermBelow, LeftBelow};
+ghost use Rattle.unifier.specs.Below.{LeftBelow};
 ghost use Rattle.unifier.specs.Pending.{args_full, raw_equations, waiting, step_of, AgreeAs, IsFit, IsNext, IsUnified, StaysBelow, Extends, KeepsFree};
 ghost use Rattle.unifier.specs.Remembered.{Entails, above, AreRemembered, AreRememberedAfter};
 

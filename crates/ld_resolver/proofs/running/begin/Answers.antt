@@ -2,7 +2,7 @@ use Rattle.std.proofs.Common.{◌≡◌, ◌+◌, ◌≤◌, List, [], length, m
 use Rattle.cti_terms.specs.declared.derivation.Goal.{Goal}
 use Rattle.cti_terms.specs.declared.atom_list.Atom.{Atom}
 use Rattle.cti_terms.specs.Resolve.{raised}
-use Rattle.unifier.specs.Below.{AtomsBelow}
+use Rattle.cti_terms.specs.Below.{AtomsBelow}
 use Rattle.ld_resolver.specs.Tails.{tail_at}
 use Rattle.ld_resolver.specs.Told.{told}
 use Rattle.ld_resolver.specs.Measured.{answered_atoms}

@@ -1,5 +1,5 @@
 use Rattle.std.proofs.Common.{sym, subst}
-use Rattle.unifier.specs.Below.{TermBelow}
+use Rattle.cti_terms.specs.Below.{TermBelow}
 use Rattle.unifier.proofs.HeadSteps.{pair_same}
 use Rattle.unifier.proofs.heads.unify_any.Goals as goal
 

@@ -2,7 +2,7 @@ use Rattle.std.proofs.Common.{ap, sym, subst}
 use Rattle.unifier.specs.declared.raised_term.RaisedTerm.{RaisedTerm}
 use Rattle.unifier.specs.Raised.{raised_tree}
 use Rattle.unifier.specs.Store.{full}
-use Rattle.unifier.specs.Below.{TermBelow}
+use Rattle.cti_terms.specs.Below.{TermBelow}
 use Rattle.unifier.proofs.HeadSteps.{pair_same}
 use Rattle.unifier.proofs.heads.unify_parts.Goals as goal
 

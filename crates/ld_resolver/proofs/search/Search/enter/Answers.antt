@@ -1,8 +1,8 @@
 use Rattle.std.proofs.Common.{◌≡◌, Some, ◌++◌, map, refl, ap, subst, rules}
 use Rattle.cti_terms.specs.declared.derivation.Goal.{Goal}
 use Rattle.cti_terms.specs.Resolve.{over, raised}
+use Rattle.cti_terms.specs.Below.{AtomsBelow}
 use Rattle.ld_resolver.specs.declared.search.Search.{Search}
-use Rattle.unifier.specs.Below.{AtomsBelow}
 use Rattle.unifier.specs.Store.{full}
 use Rattle.ld_resolver.specs.Tails.{tail_at}
 use Rattle.ld_resolver.specs.Choices.{goal_from, IsStart}
