@@ -29,7 +29,7 @@ def items():
 
 
 def names(cell):
-    return re.findall(r"`([A-Za-z_]\w*)`", cell)
+    return re.findall(r"`(?:\w+::)?([A-Za-z_]\w*)`", cell)
 
 
 def main():

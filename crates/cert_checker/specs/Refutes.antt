@@ -1,4 +1,4 @@
--- Private.
+-- To believe, for the command.
 -- What a certificate's refutations mean: no mapping of the component falls at each of its calls, for the printed size
 -- rows.
 --

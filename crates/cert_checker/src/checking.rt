@@ -142,7 +142,7 @@ fn first_fault(
 
 /// Whether a certificate of a program is valid.
 ///
-/// The names are those that gave the program's. Where the certificate is not valid, the verdict has the line of the
+/// The names are those of the program's predicates. Where the certificate is not valid, the verdict has the line of the
 /// first fault and its reason. Sizes are by the norm that the certificate names.
 ///
 /// Source: the conditions of Mesnard and Neumerkel 2001, with a proof for each size row, mapping and refutation.

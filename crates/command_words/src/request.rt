@@ -16,7 +16,7 @@ use term_size::NormName;
 /// Why the words are not a command.
 #[derive(Clone, Copy, PartialEq, Eq)]
 pub enum RequestFault {
-    /// They are none.
+    /// They do not fit the usage.
     Usage,
     /// Memory ran out.
     Memory,

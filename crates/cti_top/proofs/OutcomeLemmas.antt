@@ -15,7 +15,7 @@ use Rattle.cti_top.specs.Summary.{IsSummary}
 use Rattle.cti_top.specs.Checks as checks
 use Rattle.cti_top.specs.Queries.{Known}
 use Rattle.certificate.specs.declared.fact.Fact.{Fact}
-use Rattle.cti_top.specs.Runs.{Ends, IsKnown, IsRunOf, IsRefusedQuery}
+use Rattle.cti_top.specs.Runs.{Ends, IsKnown, IsTextOfQuery, IsRefusedQuery}
 use Rattle.cti_top.specs.Runs as runs
 use Rattle.cti_top.specs.Loops.{IsTextOfLoop, IsLoopSearchOf}
 use Rattle.cti_top.specs.Loops as loops

@@ -15,7 +15,7 @@ use Rattle.cti_top.specs.Sessions.{IsRefusedFor, IsRefusedSession, IsSessionOf}
 use Rattle.cti_top.specs.Inferred.{IsInferred}
 use Rattle.cti_top.specs.Lexed.{IsLexed}
 use Rattle.cti_top.specs.Summary.{IsSummary}
-use Rattle.cti_top.specs.Runs.{IsKnown, IsRunOf, IsRefusedQuery}
+use Rattle.cti_top.specs.Runs.{IsKnown, IsTextOfQuery, IsRefusedQuery}
 use Rattle.cti_top.specs.Loops.{IsLoopSearchOf, loop_line, no_loop_line, stopped_line}
 use Rattle.loop_finder.specs.declared.finding.Looked.{Looked}
 use Rattle.loop_finder.specs.declared.finding.Looked.TheVariants as looked
@@ -59,7 +59,7 @@ RefusesQuery bytes query status text = (kind : ℕ) × (at : ℕ) × IsRefusedQu
 
 -- the answer to a query of the program that these bytes are: what is printed for it, or why it is refused
 abbrev pub AnswersQuery : List ℕ → List ℕ → ℕ → Status → List ℕ → Type 0
-AnswersQuery bytes query n status text = IsRunOf bytes query n status text ⊎ RefusesQuery bytes query status text
+AnswersQuery bytes query n status text = IsTextOfQuery bytes query n status text ⊎ RefusesQuery bytes query status text
 
 -- the same where a loop of it is looked for
 abbrev pub AnswersLoop : List ℕ → List ℕ → ℕ → Status → List ℕ → Type 0

@@ -15,7 +15,7 @@ use Rattle.cti_top.specs.Summary.{IsSummary}
 use Rattle.report.specs.Generated.{generated as generated_text}
 use Rattle.cti_top.specs.Checks.{IsCheckOf, IsRefusedCertificate}
 use Rattle.cti_top.specs.Queries.{Known}
-use Rattle.cti_top.specs.Runs.{IsKnown, IsRunOf, IsRefusedQuery}
+use Rattle.cti_top.specs.Runs.{IsKnown, IsTextOfQuery, IsRefusedQuery}
 use Rattle.cti_top.specs.Loops.{IsLoopSearchOf}
 use Rattle.certificate.specs.Reading.{most_bytes as most_certificate_bytes}
 use Rattle.outside.specs.Causes.{Rose}
@@ -47,7 +47,7 @@ pub data IsAnswer (told : Map) (words : List (List ℕ)) (status : Status) (text
       → IsAnswer told words status text
   summed : (n : ℕ) → asks words ≡ Some (gen n) → IsSummary (generated_text n) n text → status ≡ Done → IsAnswer told words status text
   lexed : (name bytes : List ℕ) → asks words ≡ Some (lex name) → TellsAt told name bytes → IsLexed bytes text → status ≡ Done → IsAnswer told words status text
-  ran : (name query : List ℕ) (steps : ℕ) (bytes : List ℕ) → asks words ≡ Some (run name query steps) → TellsAt told name bytes → IsRunOf bytes query steps status text
+  ran : (name query : List ℕ) (steps : ℕ) (bytes : List ℕ) → asks words ≡ Some (run name query steps) → TellsAt told name bytes → IsTextOfQuery bytes query steps status text
       → IsAnswer told words status text
   looped : (name query : List ℕ) (depth : ℕ) (bytes : List ℕ) → asks words ≡ Some (loop name query depth) → TellsAt told name bytes
       → IsLoopSearchOf bytes query depth status text → IsAnswer told words status text

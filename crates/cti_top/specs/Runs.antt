@@ -41,7 +41,7 @@ abbrev pub IsKnown : List ℕ → Known → Type 0
 IsKnown bytes known = IsProgramOf bytes known.names known.program known.table
 
 -- the text is what is printed for a query of the program that these bytes are
-pub record IsRunOf (bytes query : List ℕ) (n : ℕ) (status : Status) (text : List ℕ) : Type 0 where
+pub record IsTextOfQuery (bytes query : List ℕ) (n : ℕ) (status : Status) (text : List ℕ) : Type 0 where
   pub known : Known
   pub is : IsKnown bytes known
   pub names : List (List ℕ)

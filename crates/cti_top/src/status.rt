@@ -20,9 +20,9 @@ pub enum Status {
     FileFault,
     /// The sink failed; a proper prefix of the answer was written.
     OutFault,
-    /// There was no memory; nothing was written.
+    /// Memory ran out, or a limit that counts as that was met; nothing was written.
     Memory,
-    /// The query has more nodes than were asked for: the answers among those were written, or that no loop is among
+    /// The query has more nodes than were looked at: the answers among those were written, or that no loop is among
     /// them.
     Stopped,
     /// A value in an integer test was too large, where the search ended; the answers before it were written. It comes

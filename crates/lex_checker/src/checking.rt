@@ -94,7 +94,7 @@ fn is_valid(
 
 /// Whether a certificate of lists of a program is valid.
 ///
-/// The names are those that gave the program's. Sizes are term sizes.
+/// The names are those of the program's predicates. Sizes are term sizes.
 ///
 /// Source: the conditions of Mesnard and Neumerkel 2001, over lists of level mappings that drop lexicographically.
 pub fn check(

@@ -96,14 +96,14 @@ impl<'a> Trouble<'a> {
             Trouble::Asked(_) => "",
             Trouble::File(_, cause) => cause.sentence(),
             Trouble::Output(_) => "standard output failed after {} bytes",
-            Trouble::Memory => "out of memory",
+            Trouble::Memory => "out of memory, or a limit on the work was met",
             Trouble::Overflow =>
                 "the search ended at a goal with a value above 2^127 - 1 in absolute value",
             Trouble::NoLoop => "no loop was found, which does not say that the query ends",
             Trouble::ManyDerivations => {
                 "the first 100,000 derivations have no loop, and there are more"
             }
-            Trouble::LoopMemory => "out of memory, or the terms of the derivations grew too large",
+            Trouble::LoopMemory => "out of memory, or the search grew too large",
         }
     }
 
@@ -127,7 +127,9 @@ impl<'a> Trouble<'a> {
             Trouble::Output(_) => {
                 "the answer was cut short: free space on the disk, or let the reader of the pipe read to the end"
             }
-            Trouble::Memory => "nothing was written: allow more memory, or split the program",
+            Trouble::Memory => {
+                "nothing was written: allow more memory, split a group of predicates that call each other, or make expressions smaller"
+            }
             Trouble::Overflow => {
                 "the answers before it were written; the goal is the first one that the last counted step leaves, or the first of the query if no step is counted"
             }
@@ -138,7 +140,7 @@ impl<'a> Trouble<'a> {
                 "give a smaller --depth, or a query with fewer answers; `cti run` with --steps 20 shows how the search goes"
             }
             Trouble::LoopMemory => {
-                "nothing was written: give a smaller --depth, or a query with smaller terms"
+                "nothing was written: give a smaller --depth, or a query with smaller terms or fewer clauses to try"
             }
         }
     }

@@ -10,19 +10,18 @@ pub enum Asked {
 /// The help: a line for each command, the exit statuses and two examples.
 const HELP: &str = "cti finds and checks which queries of a pure logic program end.
 
-  cti infer FILE --norm NORM      find the modes; NORM is term (the default) or list
-  cti check FILE CERT             check a certificate of the program
-  cti run FILE QUERY --steps N    run a query: its first N derivations, by default 100000
-  cti gen N                       make a program of N predicates, and count its modes
-  cti lex FILE                    find the modes by lists of mappings, not by one
-  cti loop FILE QUERY --depth D   look for a loop of at most D clauses, by default 8
-  cti session FILE                do the edits of FILE, and print the modes they ask for
-  Options may be left out.
+  cti infer FILE [--norm NORM]      find the modes; NORM is term (the default) or list
+  cti check FILE CERT               check a certificate of the program
+  cti run FILE QUERY [--steps N]    run a query: its first N derivations, by default 100000
+  cti gen N                         make a program of N predicates, and count its modes
+  cti lex FILE                      find the modes by lists of mappings, not by one
+  cti loop FILE QUERY [--depth D]   look for a loop of at most D clauses, by default 8
+  cti session FILE                  do the edits of FILE, and print the modes they ask for
 
 Exit status: 0 done, or the certificate is valid; 1 it is not valid, or no loop was
 found; 2 the words are not a command; 3 a text was refused; 4 a file could not be
-loaded; 5 standard output failed; 6 out of memory; 7 the search was stopped;
-8 a value was too large.
+loaded; 5 standard output failed; 6 out of memory, or a limit on the work was
+met; 7 the search was stopped; 8 a value was too large.
 
   cti infer append.pl
   cti run append.pl 'app(X,Y,[a])' --steps 20
@@ -30,7 +29,7 @@ loaded; 5 standard output failed; 6 out of memory; 7 the search was stopped;
 
 /// What is said of the version.
 const VERSION: &str =
-    "cti: certificates of the versions 1 and 2 are written and checked: 1 is by term size, 2 names the norm
+    "cti 0.3: writes and checks certificates of the versions 1, by term size, and 2, which names its norm
 ";
 
 impl Asked {

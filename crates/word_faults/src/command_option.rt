@@ -5,7 +5,7 @@ use crate::command::Command;
 /// An option of a command.
 #[derive(Clone, Copy)]
 pub enum CommandOption {
-    /// How many nodes of a query are looked at.
+    /// How many derivations of a query are looked at.
     Steps,
     /// The norm that the modes are found by.
     Norm,
