@@ -11,6 +11,7 @@ ghost use Rattle.level_systems.specs.declared.position.Position.{Position};
 ghost use Rattle.termination_model.specs.mappings.ComponentViews.{HasSupportIn};
 ghost use Rattle.termination_model.specs.grounds.Minimal.{IsExcluded};
 
+use crate::paths::Paths;
 use crate::places::Places;
 use crate::searching::search;
 use crate::vanishing::{is_covered, spread, unlisted, unmarked};
@@ -24,7 +25,7 @@ fn marks_outside(
     alloc: Global,
     p: &Program,
     component: &Component,
-    starts: &[usize],
+    paths: &Paths,
     set: &[u32],
 ) -> Result<Vec<bool>, AllocError>
     requires sound { IsSound p.now component.now }
@@ -37,9 +38,14 @@ fn marks_outside(
     let mut marks = unlisted(alloc, component.positions.len(), set)?;
     let places = Places {
         positions: component.positions.as_slice(),
-        starts,
+        starts: paths.starts.as_slice(),
     };
-    spread(component.calls.as_slice(), &places, &mut marks);
+    spread(
+        component.calls.as_slice(),
+        paths.order.as_slice(),
+        &places,
+        &mut marks,
+    );
     Ok(marks)
 }
 
@@ -87,7 +93,7 @@ pub(crate) fn exclude(
     alloc: Global,
     p: &Program,
     component: &Component,
-    starts: &[usize],
+    paths: &Paths,
     set: &[u32],
     known: &mut Option<Sequence<bool>>,
 ) -> Result<bool, AllocError>
@@ -101,7 +107,7 @@ pub(crate) fn exclude(
         IsKnown expression p.now comps rows c component.now.positions.items known.old
         → IsExcluded (HasSupportIn expression p.now comps rows c) set.now)) }
 {
-    let marks = marks_outside(alloc, p, component, starts, set)?;
+    let marks = marks_outside(alloc, p, component, paths, set)?;
     if is_known(known, marks.as_slice()) {
         return Ok(true);
     }

@@ -12,7 +12,7 @@ ghost use Rattle.level_dual.specs.Vanishing.{IsKnown};
 
 use crate::excluding::exclude;
 use crate::falling::find_part;
-use crate::places::starts_of;
+use crate::paths::Paths;
 use crate::searching::search;
 use cti_terms::Program;
 use level_systems::{Answer, Component, Found, Mapping, Measure, Position};
@@ -75,7 +75,7 @@ fn search_unless_excluded(
     alloc: Global,
     p: &Program,
     component: &Component,
-    starts: &[usize],
+    paths: &Paths,
     set: &[u32],
     known: &mut Option<Sequence<bool>>,
 ) -> Result<Answer, AllocError>
@@ -89,7 +89,7 @@ fn search_unless_excluded(
         IsKnown expression p.now comps rows c component.now.positions.items known.old
         → IsAnswer expression p.now comps rows c set.now answer)) }
 {
-    if exclude(alloc, p, component, starts, set, known)? {
+    if exclude(alloc, p, component, paths, set, known)? {
         return Ok(Answer::Refuted);
     }
     let answer = search(alloc, p, component, set)?;
@@ -111,19 +111,12 @@ fn leave_out(
         (λ out. ForComponent p.now component.now (λ expression comps rows c.
         AreOnce support.now → IsLeftOut expression p.now comps rows c support.now out)) }
 {
-    let starts = starts_of(alloc, component.positions.as_slice())?;
+    let paths = Paths::of(alloc, component)?;
     let mut blown = Sequence::new(alloc);
     let mut known = None;
     for number in support {
         let set = without_number(alloc, support, *number)?;
-        match search_unless_excluded(
-            alloc,
-            p,
-            component,
-            starts.as_slice(),
-            set.as_slice(),
-            &mut known,
-        )? {
+        match search_unless_excluded(alloc, p, component, &paths, set.as_slice(), &mut known)? {
             Answer::Mapping(mapping) => {
                 // The support of a mapping at this set is smaller. It is tested, since the caller's loop ends by that.
                 let smaller = support_of(alloc, component.positions.as_slice(), &mapping)?;

@@ -13,6 +13,7 @@ mod excluding;
 mod falling;
 mod finding;
 mod large;
+mod paths;
 mod places;
 mod refuting;
 mod searching;

@@ -20,14 +20,14 @@ use linear_rows::Rows;
 use std::alloc::{AllocError, Global};
 
 /// Whether a place is marked.
-fn has_mark(marks: &[bool], place: usize) -> bool
+pub(crate) fn has_mark(marks: &[bool], place: usize) -> bool
     ensures { result ≡ true → slice_get marks.now place ≡ Some true }
 {
     place < marks.len() && marks[place]
 }
 
 /// Marks a place, if there is one.
-fn put_mark(marks: &mut Vec<bool>, place: usize)
+pub(crate) fn put_mark(marks: &mut Vec<bool>, place: usize)
     ensures { IsMarkedAt marks.old.items place marks.new.items }
 {
     if place < marks.len() {
@@ -132,41 +132,55 @@ fn spread_at(own: &OwnCall, places: &Places, marks: &mut Vec<bool>)
     }
 }
 
-/// Marks what is 0 at calls, from the first to the last.
-fn spread_onward(calls: &[OwnCall], places: &Places, marks: &mut Vec<bool>)
+/// Marks what is 0 at the call of this number, if there is one.
+fn spread_from(calls: &[OwnCall], number: usize, places: &Places, marks: &mut Vec<bool>)
     requires { AllByRecursion HasNumbers calls.now }
     ensures { (l : Mapping) → AllByRecursion (KeepsColumns l) calls.now
         → Vanishes places.now.positions.now marks.old.items l
         → Vanishes places.now.positions.now marks.new.items l }
 {
-    for i in 0..calls.len() {
-        spread_at(&calls[i], places, marks);
+    if number >= calls.len() {
+        return;
+    }
+    spread_at(&calls[number], places, marks);
+}
+
+/// Marks what is 0 at calls, from the first of an order to the last.
+fn spread_onward(calls: &[OwnCall], order: &[usize], places: &Places, marks: &mut Vec<bool>)
+    requires { AllByRecursion HasNumbers calls.now }
+    ensures { (l : Mapping) → AllByRecursion (KeepsColumns l) calls.now
+        → Vanishes places.now.positions.now marks.old.items l
+        → Vanishes places.now.positions.now marks.new.items l }
+{
+    for i in 0..order.len() {
+        spread_from(calls, order[i], places, marks);
     }
 }
 
-/// Marks what is 0 at calls, from the last to the first.
-fn spread_back(calls: &[OwnCall], places: &Places, marks: &mut Vec<bool>)
+/// Marks what is 0 at calls, from the last of an order to the first.
+fn spread_back(calls: &[OwnCall], order: &[usize], places: &Places, marks: &mut Vec<bool>)
     requires { AllByRecursion HasNumbers calls.now }
     ensures { (l : Mapping) → AllByRecursion (KeepsColumns l) calls.now
         → Vanishes places.now.positions.now marks.old.items l
         → Vanishes places.now.positions.now marks.new.items l }
 {
-    for i in 0..calls.len() {
-        spread_at(&calls[calls.len() - 1 - i], places, marks);
+    for i in 0..order.len() {
+        spread_from(calls, order[order.len() - 1 - i], places, marks);
     }
 }
 
-/// Marks what is 0 at calls where the marked coefficients are, going over the calls a few times.
-pub(crate) fn spread(calls: &[OwnCall], places: &Places, marks: &mut Vec<bool>)
+/// Marks what is 0 at calls where the marked coefficients are, going over the calls a few times, in this order of
+/// their numbers and from its end.
+pub(crate) fn spread(calls: &[OwnCall], order: &[usize], places: &Places, marks: &mut Vec<bool>)
     requires { AllByRecursion HasNumbers calls.now }
     ensures { (l : Mapping) → AllByRecursion (KeepsColumns l) calls.now
         → Vanishes places.now.positions.now marks.old.items l
         → Vanishes places.now.positions.now marks.new.items l }
 {
-    spread_onward(calls, places, marks);
-    spread_onward(calls, places, marks);
-    spread_back(calls, places, marks);
-    spread_back(calls, places, marks);
+    spread_onward(calls, order, places, marks);
+    spread_onward(calls, order, places, marks);
+    spread_back(calls, order, places, marks);
+    spread_back(calls, order, places, marks);
 }
 
 /// Marks at all places but those of a set's numbers, which count from 1.

@@ -26,7 +26,7 @@ loop-number-preserved c = λ size truth expression comps rows r h once.
     let answer = c.in_ok-mapping.ensures.answer size truth expression comps rows r h known in
     let later = c.search_unless_excluded.ensures.known size truth expression comps rows r h known in
     let set : c.in_ok-set.set ≡ without_number i s = c.in_ok-set.ensures in
-    let slice : c.as_slice-in-loop-number-2.result.now ≡ without_number i s = c.as_slice-in-loop-number-2.ensures ∙ set in (
+    let slice : c.as_slice.result.now ≡ without_number i s = c.as_slice.ensures ∙ set in (
       elim c.match-branch-4.branch [
         | in-Mapping+in_ok-smaller-in-Mapping+else-len-support+in_ok-push-in-Mapping w ↦
             subst (AreTried expression p comps rows r s (k + 1)) (sym (w.blown-is ∙ w.in_ok-push-in-Mapping.ensures.ok ∙ ap (λ t. c.loop-number.blown ++ t ∷ []) set))
@@ -34,7 +34,7 @@ loop-number-preserved c = λ size truth expression comps rows r h once.
             let x = c.args.component.now in
             let m : Mapping = w.in-Mapping.mapping in
             let u = support_of (positions_in p comps r) m in
-            let found = subst (IsAnswer expression p comps rows r c.as_slice-in-loop-number-2.result.now) w.in-Mapping.is answer in
+            let found = subst (IsAnswer expression p comps rows r c.as_slice.result.now) w.in-Mapping.is answer in
             let same : w.in_ok-smaller-in-Mapping.smaller.items ≡ u =
             w.in_ok-smaller-in-Mapping.ensures ∙ ap (λ (ps : List Position). support_of (map spelled ps) m) w.as_slice-in-Mapping.ensures.value ∙ ap (λ ps. support_of ps m) h.positions in
             let less = part_without i s u (place_in s k i at) (set_once 1 (suc (length (positions_in p comps r))) u (sets_in size truth expression p comps rows r x h u found.has))
@@ -43,11 +43,11 @@ loop-number-preserved c = λ size truth expression comps rows r h once.
         | in-Refuted w ↦
             subst (AreTried expression p comps rows r s (k + 1)) (sym w.blown-is)
             (excluded_too expression p comps rows r s k i at c.loop-number.blown before
-            (subst (IsExcluded (HasSupportIn expression p comps rows r)) slice (subst (IsAnswer expression p comps rows r c.as_slice-in-loop-number-2.result.now) w.in-Refuted.is answer)))
+            (subst (IsExcluded (HasSupportIn expression p comps rows r)) slice (subst (IsAnswer expression p comps rows r c.as_slice.result.now) w.in-Refuted.is answer)))
         | in-Blown+in_ok-push-in-Blown w ↦
             subst (AreTried expression p comps rows r s (k + 1)) (sym (w.blown-is ∙ w.in_ok-push-in-Blown.ensures.ok ∙ ap (λ t. c.loop-number.blown ++ t ∷ []) set))
             (given_up_too expression p comps rows r s k i at c.loop-number.blown before once
-            (subst (IsBlownSet expression p comps rows r) slice (subst (IsAnswer expression p comps rows r c.as_slice-in-loop-number-2.result.now) w.in-Blown.is answer)))
+            (subst (IsBlownSet expression p comps rows r) slice (subst (IsAnswer expression p comps rows r c.as_slice.result.now) w.in-Blown.is answer)))
       ],
       later,
     )
