@@ -1,7 +1,8 @@
 #!/usr/bin/env bash
 # Times `cti infer`, outside the gate: 1 MB of facts (long ones, and of different names) and half as much, quicksort, generated programs
-# of 150 and 300 predicates, a chain of 3,000 predicates and a ring of 80 in a shuffled order, a clause of 48 variables, 8 predicates
-# that call each other at random, and facts whose arguments have sizes that differ at random; and `cti check` on the certificates of the generated ones.
+# of 150 and 300 predicates, a chain of 3,000 predicates and rings of 300 and 1,000 in a shuffled order, a machine of 30 states, a clause
+# of 48 variables, 8 predicates that call each other at random, and facts whose arguments have sizes that differ at random; and
+# `cti check` on the certificates of the generated ones.
 # Usage: bench/infer.sh [PROGRAM]     (PROGRAM is bin/cti where none is named)
 set -eu
 cd "$(dirname "$0")/.."
@@ -74,6 +75,16 @@ def calls(count, arity):
     return "\n".join(clauses) + "\n"
 
 
+def states(count):
+    """States of a machine that reads a list: each goes on to the next one and to two others at random."""
+    pick = random.Random(1)
+    clauses = ["get([X|L],L)."]
+    for k in range(count):
+        for to in (pick.randrange(count), pick.randrange(count), (k + 1) % count):
+            clauses.append(f"s{k}(L) :- get(L,M), s{to}(M).")
+    return shuffled(clauses)
+
+
 for count, arity, most in [(80, 3, 9), (20, 4, 9), (100, 4, 9), (9, 5, 9), (14, 5, 9), (30, 5, 9), (60, 5, 9), (80, 5, 9), (100, 5, 9), (20, 6, 9), (40, 3, 99)]:
     write(f"points_{count}_{arity}_{most}", points(count, arity, most))
 write("calls_8_3", calls(8, 3))
@@ -93,7 +104,10 @@ write(
 for count in (150, 300):
     write(f"generated_{count}", generated(count))
 write("chain", shuffled([f"p{n}(X,Y,Z) :- p{n + 1}(X,Y,Z)." for n in range(2999)] + ["p2999(a,b,c)."]))
-write("ring", shuffled([f"p{n}(X) :- p{n + 1}(X)." for n in range(79)] + ["p79(s(X)) :- p0(X)."]))
+for count in (300, 1000):
+    ring = [f"p{n}(X) :- p{n + 1}(X)." for n in range(count - 1)] + [f"p{count - 1}(s(X)) :- p0(X)."]
+    write(f"ring_{count}", shuffled(ring))
+write("states_30", states(30))
 groups = [",".join(f"X{12 * g + k}" for k in range(1, 13)) for g in range(4)]
 write(
     "wide",
@@ -103,7 +117,7 @@ write(
 )
 PYTHON
 
-for name in long_half long different_half different quicksort generated_150 generated_300 chain ring wide calls_8_3 \
+for name in long_half long different_half different quicksort generated_150 generated_300 chain ring_300 ring_1000 states_30 wide calls_8_3 \
     points_80_3_9 points_20_4_9 points_100_4_9 points_9_5_9 points_14_5_9 points_30_5_9 points_60_5_9 points_80_5_9 \
     points_100_5_9 points_20_6_9 points_40_3_99; do
     python3 bench/timed.py "$folder/$name.pl" "$program" infer "$folder/$name.pl"
