@@ -85,7 +85,10 @@ def states(count):
     return shuffled(clauses)
 
 
-for count, arity, most in [(80, 3, 9), (20, 4, 9), (100, 4, 9), (9, 5, 9), (14, 5, 9), (30, 5, 9), (60, 5, 9), (80, 5, 9), (100, 5, 9), (20, 6, 9), (40, 3, 99)]:
+for count, arity, most in [
+    *[(80, 3, 9), (20, 4, 9), (100, 4, 9), (9, 5, 9), (14, 5, 9), (30, 5, 9), (60, 5, 9), (80, 5, 9), (100, 5, 9)],
+    *[(20, 6, 9), (40, 3, 99)],
+]:
     write(f"points_{count}_{arity}_{most}", points(count, arity, most))
 write("calls_8_3", calls(8, 3))
 long_fact = "p(" + ",".join(["abcd"] * 11) + ").\n"
@@ -117,9 +120,9 @@ write(
 )
 PYTHON
 
-for name in long_half long different_half different quicksort generated_150 generated_300 chain ring_300 ring_1000 states_30 wide calls_8_3 \
-    points_80_3_9 points_20_4_9 points_100_4_9 points_9_5_9 points_14_5_9 points_30_5_9 points_60_5_9 points_80_5_9 \
-    points_100_5_9 points_20_6_9 points_40_3_99; do
+for name in long_half long different_half different quicksort generated_150 generated_300 chain ring_300 ring_1000 \
+    states_30 wide calls_8_3 points_80_3_9 points_20_4_9 points_100_4_9 points_9_5_9 points_14_5_9 points_30_5_9 \
+    points_60_5_9 points_80_5_9 points_100_5_9 points_20_6_9 points_40_3_99; do
     python3 bench/timed.py "$folder/$name.pl" "$program" infer "$folder/$name.pl"
 done
 for name in generated_150 generated_300; do
