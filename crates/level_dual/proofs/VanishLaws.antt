@@ -1,6 +1,7 @@
 -- Coefficients that are 0 where others are.
-use Rattle.std.proofs.Common.{◌≡◌, ◌≢◌, ℕ, zero, suc, ◌+◌, ◌<◌, ◌≤◌, ℤ, pos, negsuc, ◌+ℤ◌, ◌*ℤ◌, ◌≤ℤ◌, Bool, true, false, if◌then◌else◌, List, [], ◌∷◌, ◌++◌, map, take, length, slice_get, slice_set, Some, ◌⊎◌, inl, inr, refl, ap, sym, subst, ◌∙◌, arith, nat_lt}
-use Rattle.std.specs.Prelude.{All}
+use Rattle.std.proofs.Common.{◌≡◌, ◌≢◌, ℕ, zero, suc, ◌+◌, ◌*◌, ◌<◌, ◌≤◌, ℤ, pos, negsuc, ◌+ℤ◌, ◌*ℤ◌, ◌≤ℤ◌, Bool, true, false, if◌then◌else◌, List, [], ◌∷◌, ◌++◌, map, take, length, slice_get, slice_set, get_or, Some, ◌⊎◌, inl, inr, refl, ap, sym, subst, ◌∙◌, arith, nat_lt}
+use Rattle.std.specs.Prelude.{All, None, unsigned_abs}
+use Rattle.std.proofs.lemmas.List.{length-map}
 use Rattle.std.specs.List.{AllByRecursion}
 use Rattle.std.proofs.lemmas.Int.{ints}
 use Rattle.std.proofs.lemmas.Bool.Decides.{nat_tests}
@@ -9,7 +10,7 @@ use Rattle.cti_terms.specs.Listing.{Listing}
 use Rattle.cti_terms.specs.Tree.{Tree}
 use Rattle.call_components.specs.Partition.{Partition}
 use Rattle.call_components.proofs.Lists.{slice_get-set_same, slice_get-set_other}
-use Rattle.exact128.proofs.Rings.{mul_mono, mul_nonneg}
+use Rattle.exact128.proofs.Rings.{mul_mono, mul_nonneg, rings}
 use Rattle.exact128.specs.Sums.{dot, entry}
 use Rattle.linear_rows.specs.Members.{In}
 use Rattle.linear_rows.specs.Plain.{plain_row, plain_rows}
@@ -28,13 +29,15 @@ use Rattle.termination_model.specs.sizes.Rows.{added, scaled}
 use Rattle.termination_model.specs.mappings.Supports.{support_from}
 use Rattle.termination_model.specs.sizes.Systems.{row_over}
 use Rattle.termination_model.specs.mappings.View.{Call, Member, Rule, fall_over, system_of}
-use Rattle.termination_model.proofs.Entries.{entry_added, entry_scaled, entry_substituted}
+use Rattle.termination_model.proofs.Refuted.{dot_over}
+use Rattle.termination_model.proofs.SystemPoints.{dot_added, dot_scaled}
 use Rattle.termination_model.proofs.Lists.{mapped_place, place_below}
 use Rattle.termination_model.proofs.Readiness.{from_in, own_of, some_there}
 use Rattle.termination_model.proofs.Sets.{of_part, to_part}
-use Rattle.level_systems.specs.Held.{AreSizes, IsHeld, spelled}
+use Rattle.level_systems.specs.Held.{AreSizes, HasPoint, IsHeld, IsReach, spelled}
+use Rattle.level_systems.specs.Pairs.{clause_at}
 use Rattle.level_systems.specs.Searched.{IsComponent}
-use Rattle.level_dual.specs.Vanishing.{AreMarkedOrIn, AreUnlisted, IsSilent, IsVoid, KeepsColumns, Vanishes, sizes_at}
+use Rattle.level_dual.specs.Vanishing.{AreMarkedOrIn, AreUnlisted, IsRay, IsSilent, IsVoid, KeepsRays, Vanishes, growths}
 use Rattle.level_systems.specs.declared.component.Component.{Component}
 use Rattle.level_systems.specs.declared.own_call.OwnCall.{OwnCall}
 use Rattle.level_systems.specs.declared.position.Position.{Position}
@@ -84,97 +87,138 @@ silent_of (c ∷ cs) (e ∷ es) h d (suc a) k =
     let here = mul_nonneg (pos c) e (omega (arith, ints)) (h 0) in
     silent_of cs es (λ b. h (suc b)) (omega (arith, ints, here, d)) a k
 
--- ---- columns of a row that holds everywhere
-abbrev flat : ℕ → List ℕ
-flat zero = []
-flat (suc n) = 0 ∷ flat n
+-- ---- rows along a ray
+-- a point that is moved along a direction
+abbrev moved : ℕ → List ℕ → List ℕ → List ℕ
+moved k [] ds = []
+moved k (w ∷ ws) [] = w ∷ ws
+moved k (w ∷ ws) (d ∷ ds) = (w + k * d) ∷ moved k ws ds
 
--- of n numbers all are 0 but that at one place
-abbrev spike : ℕ → ℕ → ℕ → List ℕ
-spike j k zero = []
-spike zero k (suc n) = k ∷ flat n
-spike (suc j) k (suc n) = 0 ∷ spike j k n
+length_moved : (k : ℕ) (ws ds : List ℕ) → length (moved k ws ds) ≡ length ws
+length_moved k [] ds = refl
+length_moved k (w ∷ ws) [] = refl
+length_moved k (w ∷ ws) (d ∷ ds) = ap suc (length_moved k ws ds)
 
-length_flat : (n : ℕ) → length (flat n) ≡ n
-length_flat zero = refl
-length_flat (suc n) = ap suc (length_flat n)
+pos_moved : (w k d : ℕ) → pos (w + k * d) ≡ pos w +ℤ pos k *ℤ pos d
+pos_moved w k d = refl
 
-length_spike : (j k n : ℕ) → length (spike j k n) ≡ n
-length_spike j k zero = refl
-length_spike zero k (suc n) = ap suc (length_flat n)
-length_spike (suc j) k (suc n) = ap suc (length_spike j k n)
-
-dot_flat : (es : List ℤ) (n : ℕ) → dot es (map pos (flat n)) ≡ pos 0
+dot_moved : (es : List ℤ) (k : ℕ) (ws ds : List ℕ) → length ws ≡ length ds → dot es (map pos (moved k ws ds)) ≡ dot es (map pos ws) +ℤ pos k *ℤ dot es (map pos ds)
 unfolding dot
-dot_flat [] n = refl
-dot_flat (e ∷ es) zero = refl
-dot_flat (e ∷ es) (suc n) = let rest = dot_flat es n in omega (arith, ints, rest)
+dot_moved [] k ws ds l = omega (arith, ints)
+dot_moved (e ∷ es) k [] [] l = omega (arith, ints)
+dot_moved (e ∷ es) k [] (d ∷ ds) l = absurd (omega (arith, l))
+dot_moved (e ∷ es) k (w ∷ ws) [] l = absurd (omega (arith, l))
+dot_moved (e ∷ es) k (w ∷ ws) (d ∷ ds) l = rw (dot_moved es k ws ds (omega (arith, l)), pos_moved w k d) (simp rings (omega (arith, ints)))
 
-dot_spike : (es : List ℤ) (j k n : ℕ) → j < n → dot es (map pos (spike j k n)) ≡ pos k *ℤ entry es j
+point_moved : (row : List ℤ) (t k : ℕ) (ws ds : List ℕ) → length ws ≡ length ds
+    → dot row (pos t ∷ map pos (moved k ws ds)) ≡ dot row (pos t ∷ map pos ws) +ℤ pos k *ℤ dot row (pos 0 ∷ map pos ds)
 unfolding dot
-dot_spike es j k zero l = absurd (omega (arith, l))
-dot_spike [] zero k (suc n) l = omega (arith, ints)
-dot_spike [] (suc j) k (suc n) l = omega (arith, ints)
-dot_spike (e ∷ es) zero k (suc n) l = let rest = dot_flat es n in let swap = *ℤ_comm e (pos k) in omega (arith, ints, rest, swap)
-dot_spike (e ∷ es) (suc j) k (suc n) l = let rest = dot_spike es j k n (omega (arith, l)) in omega (arith, ints, rest)
+point_moved [] t k ws ds l = omega (arith, ints)
+point_moved (b ∷ cs) t k ws ds l = rw (dot_moved cs k ws ds l) (simp rings (omega (arith, ints)))
 
-column_kept : (n : ℕ) (row : List ℤ) → HoldsOn (suc n) [] row → (j : ℕ) → j < n → pos 0 ≤ℤ entry row (suc j)
+still_holds : (row : List ℤ) (t k : ℕ) (ws ds : List ℕ) → length ws ≡ length ds → pos 0 ≤ℤ dot row (pos t ∷ map pos ws) → pos 0 ≤ℤ dot row (pos 0 ∷ map pos ds) → pos 0 ≤ℤ dot row (pos t ∷ map pos (moved k ws ds))
+still_holds row t k ws ds l at along =
+    let e = point_moved row t k ws ds l in
+    let more = mul_nonneg (pos k) (dot row (pos 0 ∷ map pos ds)) (omega (arith, ints)) along in
+    omega (arith, ints, e, more, at)
+
+-- a row that holds wherever others do does not fall along their ray
+along_row : (n : ℕ) (rows : List (List ℤ)) (row : List ℤ) (ds : List ℕ) → HasPoint n rows → length ds ≡ n → All (λ (r : List ℤ). pos 0 ≤ℤ dot r (pos 0 ∷ map pos ds)) rows → HoldsOn (suc n) rows row
+    → pos 0 ≤ℤ dot row (pos 0 ∷ map pos ds)
+along_row n rows row ds point long along on =
+    let same : length point.w ≡ length ds = point.long ∙ sym long in
+    never_below (dot row (pos point.t ∷ map pos point.w)) (dot row (pos 0 ∷ map pos ds)) (λ k.
+    let e = point_moved row point.t k point.w ds same in
+    let wide = length_moved k point.w ds in
+    let width = point.long in
+    let holds = on point.t (moved k point.w ds) point.some (omega (arith, wide, width)) (λ j r less. still_holds (get_or rows j r) point.t k point.w ds same (point.hold j r less) (along j r less)) in
+    omega (arith, ints, e, holds))
+
+zero_first : (b : ℤ) (cs vs : List ℤ) → dot (b ∷ cs) (pos 0 ∷ vs) ≡ dot cs vs
 unfolding dot
-column_kept n [] on j l = omega (arith, ints)
-column_kept n (b ∷ row) on j l =
-    never_below b (entry row j) (λ k.
-    let long = length_spike j k n in
-    let holds : pos 0 ≤ℤ (b *ℤ pos 1 +ℤ dot row (map pos (spike j k n))) = on 1 (spike j k n) (omega arith) (omega (arith, long)) (λ i e less. absurd (omega (arith, less))) in
-    let at = dot_spike row j k n l in
-    omega (arith, ints, holds, at))
+zero_first b cs vs = omega (arith, ints)
 
-fall_column : (expression : ℕ → Tree → List ℤ) (r : Rule) (q : ℕ) (ts : List Tree) (l : Mapping) (j : ℕ) → pos 0 ≤ℤ entry (fall_over expression r q ts 1 l) (suc j)
-    → dot (map pos (l.coefficients q)) (map (λ e. entry e (suc j)) (map (expression r.vars) ts))
-    ≤ℤ dot (map pos (l.coefficients r.member)) (map (λ e. entry e (suc j)) (map (expression r.vars) r.args))
-fall_column expression r q ts l j le =
+unit_at_zero : (vs : List ℤ) → dot (pos 1 ∷ []) (pos 0 ∷ vs) ≡ pos 0
+unfolding dot
+unit_at_zero vs = omega (arith, ints)
+
+along_fall : (expression : ℕ → Tree → List ℤ) (r : Rule) (q : ℕ) (ts : List Tree) (l : Mapping) (ds : List ℤ) → pos 0 ≤ℤ dot (fall_over expression r q ts 1 l) (pos 0 ∷ ds)
+    → dot (map pos (l.coefficients q)) (map (λ e. dot e (pos 0 ∷ ds)) (map (expression r.vars) ts))
+    ≤ℤ dot (map pos (l.coefficients r.member)) (map (λ e. dot e (pos 0 ∷ ds)) (map (expression r.vars) r.args))
+along_fall expression r q ts l ds le =
     let head = row_over expression r.vars r.args (pos (l.offset r.member) ∷ map pos (l.coefficients r.member)) in
     let call = row_over expression r.vars ts (pos (l.offset q) ∷ map pos (l.coefficients q)) in
-    let a = entry_added head (scaled (negsuc 0) (added call (pos 1 ∷ []))) (suc j) in
-    let b = entry_scaled (negsuc 0) (added call (pos 1 ∷ [])) (suc j) in
-    let d = entry_added call (pos 1 ∷ []) (suc j) in
-    let h = entry_substituted r.vars (map (expression r.vars) r.args) (pos (l.offset r.member)) (map pos (l.coefficients r.member)) (suc j) in
-    let g = entry_substituted r.vars (map (expression r.vars) ts) (pos (l.offset q)) (map pos (l.coefficients q)) (suc j) in
-    omega (arith, ints, le, a, b, d, h, g)
+    let a = dot_added head (scaled (negsuc 0) (added call (pos 1 ∷ []))) (pos 0 ∷ ds) in
+    let b = dot_scaled (negsuc 0) (added call (pos 1 ∷ [])) (pos 0 ∷ ds) in
+    let c = dot_added call (pos 1 ∷ []) (pos 0 ∷ ds) in
+    let u = unit_at_zero ds in
+    let h = dot_over r.vars (map (expression r.vars) r.args) (pos (l.offset r.member)) (map pos (l.coefficients r.member)) (pos 0) ds
+    ∙ zero_first (pos (l.offset r.member)) (map pos (l.coefficients r.member)) (map (λ e. dot e (pos 0 ∷ ds)) (map (expression r.vars) r.args)) in
+    let g = dot_over r.vars (map (expression r.vars) ts) (pos (l.offset q)) (map pos (l.coefficients q)) (pos 0) ds
+    ∙ zero_first (pos (l.offset q)) (map pos (l.coefficients q)) (map (λ e. dot e (pos 0 ∷ ds)) (map (expression r.vars) ts)) in
+    omega (arith, ints, le, a, b, c, u, h, g)
+
+natural_is : (x : ℤ) → pos 0 ≤ℤ x → x ≡ pos (unsigned_abs x)
+natural_is (pos n) h = refl
+natural_is (negsuc n) h = absurd (omega (arith, ints, h))
+
+naturals_are : (d : List ℤ) → All (λ x. pos 0 ≤ℤ x) d → d ≡ map pos (map unsigned_abs d)
+naturals_are [] h = refl
+naturals_are (x ∷ d) h =
+    let here = natural_is x (h 0 x (omega arith)) in
+    let rest = naturals_are d (λ k e l. h (suc k) e (omega (arith, l))) in
+    λ i. here i ∷ rest i
+
+rays_plain : (d : List ℤ) (rows : List Row) → All (λ (r : Row). pos 0 ≤ℤ dot (plain_row r) d) rows → All (λ (r : List ℤ). pos 0 ≤ℤ dot r d) (plain_rows rows)
+rays_plain d [] h k e l = absurd (omega (arith, l))
+rays_plain d (r ∷ rows) h zero e l = h 0 r (omega arith)
+rays_plain d (r ∷ rows) h (suc k) e l = rays_plain d rows (λ j x m. h (suc j) x (omega (arith, m))) k e (omega (arith, l))
 
 -- ---- sizes
-pub size_at : (rows : List Row) (x a : ℕ) (r : Row) → slice_get rows a ≡ Some r → entry (map (λ e. entry e x) (map plain_row rows)) a ≡ entry (plain_row r) x
-size_at [] x a r e = cc
-size_at (y ∷ rows) x zero r e = let same : y ≡ r = cc in ap (λ (z : Row). entry (plain_row z) x) same
-size_at (y ∷ rows) x (suc a) r e = size_at rows x a r e
+pub growth_at : (rows : List Row) (d : List ℤ) (a : ℕ) (r : Row) → slice_get rows a ≡ Some r → entry (map (λ e. dot e (pos 0 ∷ d)) (map plain_row rows)) a ≡ dot (plain_row r) (pos 0 ∷ d)
+growth_at [] d a r e = cc
+growth_at (y ∷ rows) d zero r e = let same : y ≡ r = cc in ap (λ (z : Row). dot (plain_row z) (pos 0 ∷ d)) same
+growth_at (y ∷ rows) d (suc a) r e = growth_at rows d a r e
 
-size_past : (rows : List Row) (x a : ℕ) → length rows ≤ a → entry (map (λ e. entry e x) (map plain_row rows)) a ≡ pos 0
-size_past [] x a l = refl
-size_past (y ∷ rows) x zero l = absurd (omega (arith, l))
-size_past (y ∷ rows) x (suc a) l = size_past rows x a (omega (arith, l))
+growth_past : (rows : List Row) (d : List ℤ) (a : ℕ) → length rows ≤ a → entry (map (λ e. dot e (pos 0 ∷ d)) (map plain_row rows)) a ≡ pos 0
+growth_past [] d a l = refl
+growth_past (y ∷ rows) d zero l = absurd (omega (arith, l))
+growth_past (y ∷ rows) d (suc a) l = growth_past rows d a (omega (arith, l))
 
 below_or : (a n : ℕ) → (a < n) ⊎ (n ≤ a)
 below_or a n = grind arith
 
 -- what is so of all arguments is so of all numbers
-pub silent_everywhere : (l : Mapping) (q : ℕ) (sizes : Rows) (x : ℕ) → IsSilent l q sizes x (length sizes.list) → (a : ℕ) → 0 < coefficient (l.coefficients q) a → entry (sizes_at sizes x) a ≡ pos 0
-silent_everywhere l q sizes x h a more = elim (below_or a (length sizes.list)) [ inl lt ↦ h a lt more | inr le ↦ size_past sizes.list x a le ]
+pub silent_everywhere : (l : Mapping) (q : ℕ) (sizes : Rows) (d : List ℤ) → IsSilent l q sizes d (length sizes.list) → (a : ℕ) → 0 < coefficient (l.coefficients q) a → entry (growths sizes d) a ≡ pos 0
+silent_everywhere l q sizes d h a more = elim (below_or a (length sizes.list)) [ inl lt ↦ h a lt more | inr le ↦ growth_past sizes.list d a le ]
 
-pub natural_sizes : (rows : List Row) (x : ℕ) → All (λ (r : Row). (x < length (plain_row r)) × (pos 0 ≤ℤ entry (plain_row r) x)) rows → (a : ℕ) → pos 0 ≤ℤ entry (map (λ e. entry e x) (map plain_row rows)) a
-natural_sizes [] x h a = omega (arith, ints)
-natural_sizes (r ∷ rows) x h zero = (h 0 r (omega arith)).1
-natural_sizes (r ∷ rows) x h (suc a) = natural_sizes rows x (λ k d l. h (suc k) d (omega (arith, l))) a
+natural_product : (es ds : List ℤ) → ((x : ℕ) → x < length ds → pos 0 ≤ℤ entry es x) → All (λ x. pos 0 ≤ℤ x) ds → pos 0 ≤ℤ dot es ds
+unfolding dot
+natural_product [] ds h n = omega (arith, ints)
+natural_product (e ∷ es) [] h n = omega (arith, ints)
+natural_product (e ∷ es) (d ∷ ds) h n =
+    let here = mul_nonneg e d (h 0 (omega arith)) (n 0 d (omega arith)) in
+    let rest = natural_product es ds (λ x l. h (suc x) (omega (arith, l))) (λ k y l. n (suc k) y (omega (arith, l))) in
+    omega (arith, ints, here, rest)
 
-pub none_there : {X : Type 0} (xs : List X) → length xs ≤ 0 → xs ≡ []
-none_there [] l = refl
-none_there (x ∷ xs) l = absurd (omega (arith, l))
+from_zero : (d : List ℤ) → All (λ x. pos 0 ≤ℤ x) d → All (λ x. pos 0 ≤ℤ x) (pos 0 ∷ d)
+from_zero d h zero y l = omega (arith, ints)
+from_zero d h (suc k) y l = h k y (omega (arith, l))
 
--- where a call keeps its columns and the head is silent, so is the call
-pub call_silent : (l : Mapping) (own : OwnCall) (x : ℕ) → KeepsColumns l own → own.rows.list ≡ [] → x < own.rows.width → AreSizes (suc x) own.callee_sizes
-    → IsSilent l own.caller.0 own.caller_sizes (suc x) (length own.caller_sizes.list) → IsSilent l own.callee.0 own.callee_sizes (suc x) (length own.callee_sizes.list)
-call_silent l own x keeps none lt sizes silent a less more =
-    let head = silent_dot (l.coefficients own.caller.0) (sizes_at own.caller_sizes (suc x)) (silent_everywhere l own.caller.0 own.caller_sizes (suc x) silent) in
-    let kept = keeps none x lt in
-    silent_of (l.coefficients own.callee.0) (sizes_at own.callee_sizes (suc x)) (natural_sizes own.callee_sizes.list (suc x) sizes) (omega (arith, ints, head, kept)) a more
+pub natural_growths : (rows : List Row) (d : List ℤ) → ((x : ℕ) → x < suc (length d) → All (λ (r : Row). (x < length (plain_row r)) × (pos 0 ≤ℤ entry (plain_row r) x)) rows) → All (λ x. pos 0 ≤ℤ x) d
+    → (a : ℕ) → pos 0 ≤ℤ entry (map (λ e. dot e (pos 0 ∷ d)) (map plain_row rows)) a
+natural_growths [] d h n a = omega (arith, ints)
+natural_growths (r ∷ rows) d h n zero = natural_product (plain_row r) (pos 0 ∷ d) (λ x l. (h x l 0 r (omega arith)).1) (from_zero d n)
+natural_growths (r ∷ rows) d h n (suc a) = natural_growths rows d (λ x l k e m. h x l (suc k) e (omega (arith, m))) n a
+
+-- where a call keeps its rays and the head is silent, so is the call
+pub call_silent : (l : Mapping) (own : OwnCall) (d : List ℤ) → KeepsRays l own → own.empty ≡ None → IsRay own.rows d → ((x : ℕ) → x < suc own.rows.width → AreSizes x own.callee_sizes)
+    → IsSilent l own.caller.0 own.caller_sizes d (length own.caller_sizes.list) → IsSilent l own.callee.0 own.callee_sizes d (length own.callee_sizes.list)
+call_silent l own d keeps live ray sizes silent a less more =
+    let head = silent_dot (l.coefficients own.caller.0) (growths own.caller_sizes d) (silent_everywhere l own.caller.0 own.caller_sizes d silent) in
+    let kept = keeps live d ray in
+    let long = ray.long in
+    silent_of (l.coefficients own.callee.0) (growths own.callee_sizes d) (natural_growths own.callee_sizes.list d (λ x lt. sizes x (omega (arith, lt, long))) ray.natural) (omega (arith, ints, head, kept)) a more
 
 -- ---- marks
 pub zero_unless : (n : ℕ) → (0 < n → ⊥) → n ≡ 0
@@ -230,28 +274,34 @@ marked_more k marks s h there i lt = elim (less_or_same i k lt) [
 
 module _ (size : (ℕ → ℕ) → Tree → ℕ) (truth : (ℕ → Bool) → Tree → Bool) (expression : ℕ → Tree → List ℤ) (p : Listing) (comps : Partition) (rows : ℕ → List (List ℤ)) (c : ℕ) (x : Component)
     (h : IsComponent size truth expression p comps rows c x) (l : Mapping) where
-  module _ (d : Decreases expression (component_view expression p comps rows c) l) where
-    call_keeps : (own : OwnCall) → In own x.calls.items → KeepsColumns l own
-    call_keeps own i none j lt =
+  module _ (dec : Decreases expression (component_view expression p comps rows c) l) where
+    call_keeps : (own : OwnCall) → In own x.calls.items → KeepsRays l own
+    call_keeps own i live d ray =
         let view = component_view expression p comps rows c in
         let held = from_in (IsHeld expression p rows) x.calls.items h.held own i in
         let o = re expression p comps rows c own in
         let r = recalls expression p comps rows c own held in
         let mine = own_of view o (subst (In o) (sym (calls_are expression p comps rows c x.calls.items h.pairs h.held)) (in-map (re expression p comps rows c) x.calls.items own i)) in
-        let fall = from_in (λ (k : Rule). (n : ℕ) (b : Call) (q : ℕ) → slice_get k.body n ≡ Some b → b.place ≡ Member q
-        → HoldsOn (suc k.vars) (system_of expression k.vars (take n k.body)) (fall_over expression k q b.args 1 l)) view d o.rule (some_there view o.rule mine.there) o.place o.call o.member mine.call mine.member in
-        let empty : rows_before expression o ≡ [] = sym (rows_are expression p comps rows c own held) ∙ ap plain_rows none in
-        let all = subst (λ (rs : List (List ℤ)). HoldsOn (suc o.rule.vars) rs (fall_over expression o.rule o.member o.call.args 1 l)) empty fall in
-        let inside : j < o.rule.vars = let wide = r.vars in omega (arith, lt, wide) in
-        let kept = fall_column expression o.rule o.member o.call.args l j (column_kept o.rule.vars (fall_over expression o.rule o.member o.call.args 1 l) all j inside) in
-        let call : dot (map pos (l.coefficients own.callee.0)) (sizes_at own.callee_sizes (suc j)) ≡ dot (map pos (l.coefficients o.member)) (map (λ e. entry e (suc j)) (map (expression o.rule.vars) o.call.args)) =
-        λ i. dot (map pos (l.coefficients (r.callee i))) (map (λ e. entry e (suc j)) (r.callee_sizes i)) in
-        let head : dot (map pos (l.coefficients own.caller.0)) (sizes_at own.caller_sizes (suc j)) ≡ dot (map pos (l.coefficients o.rule.member)) (map (λ e. entry e (suc j)) (map (expression o.rule.vars) o.rule.args)) =
-        λ i. dot (map pos (l.coefficients (r.caller i))) (map (λ e. entry e (suc j)) (r.caller_sizes i)) in
-        omega (arith, ints, kept, call, head)
+        let fall : HoldsOn (suc o.rule.vars) (rows_before expression o) (fall_over expression o.rule o.member o.call.args 1 l) = from_in (λ (k : Rule). (n : ℕ) (b : Call) (q : ℕ) → slice_get k.body n ≡ Some b → b.place ≡ Member q
+        → HoldsOn (suc k.vars) (system_of expression k.vars (take n k.body)) (fall_over expression k q b.args 1 l)) view dec o.rule (some_there view o.rule mine.there) o.place o.call o.member mine.call mine.member in
+        let before : plain_rows own.rows.list ≡ rows_before expression o = rows_are expression p comps rows c own held in
+        let reach : HasPoint o.rule.vars (plain_rows own.rows.list) = subst (IsReach (clause_at p own.clause).vars (plain_rows own.rows.list)) live held.reach in
+        let ds = map unsigned_abs d in
+        let is : d ≡ map pos ds = naturals_are d ray.natural in
+        let wide = r.vars in
+        let long : length ds ≡ o.rule.vars = length-map d unsigned_abs ∙ ray.long ∙ wide in
+        let along : All (λ (row : List ℤ). pos 0 ≤ℤ dot row (pos 0 ∷ map pos ds)) (rows_before expression o) =
+        subst (λ (rs : List (List ℤ)). All (λ (row : List ℤ). pos 0 ≤ℤ dot row (pos 0 ∷ map pos ds)) rs) before (subst (λ (e : List ℤ). All (λ (row : List ℤ). pos 0 ≤ℤ dot row (pos 0 ∷ e)) (plain_rows own.rows.list)) is (rays_plain (pos 0 ∷ d) own.rows.list ray.holds)) in
+        let kept = along_row o.rule.vars (rows_before expression o) (fall_over expression o.rule o.member o.call.args 1 l) ds (subst (HasPoint o.rule.vars) before reach) long along fall in
+        let falls = along_fall expression o.rule o.member o.call.args l d (subst (λ (e : List ℤ). pos 0 ≤ℤ dot (fall_over expression o.rule o.member o.call.args 1 l) (pos 0 ∷ e)) (sym is) kept) in
+        let call : dot (map pos (l.coefficients own.callee.0)) (growths own.callee_sizes d) ≡ dot (map pos (l.coefficients o.member)) (map (λ e. dot e (pos 0 ∷ d)) (map (expression o.rule.vars) o.call.args)) =
+        λ i. dot (map pos (l.coefficients (r.callee i))) (map (λ e. dot e (pos 0 ∷ d)) (r.callee_sizes i)) in
+        let head : dot (map pos (l.coefficients own.caller.0)) (growths own.caller_sizes d) ≡ dot (map pos (l.coefficients o.rule.member)) (map (λ e. dot e (pos 0 ∷ d)) (map (expression o.rule.vars) o.rule.args)) =
+        λ i. dot (map pos (l.coefficients (r.caller i))) (map (λ e. dot e (pos 0 ∷ d)) (r.caller_sizes i)) in
+        omega (arith, ints, falls, call, head)
 
-    pub all_keep : AllByRecursion (KeepsColumns l) x.calls.items
-    all_keep = all_in (KeepsColumns l) x.calls.items call_keeps
+    pub all_keep : AllByRecursion (KeepsRays l) x.calls.items
+    all_keep = all_in (KeepsRays l) x.calls.items call_keeps
 
 -- ---- supports
 in_here : (b : Bool) (i : ℕ) (xs : List ℕ) → b ≡ true → In i (if b then i ∷ xs else xs)

@@ -1,12 +1,13 @@
 -- Private.
 -- Mappings that are 0 at marked positions. Nothing here has to be believed.
-use Rattle.std.specs.Prelude.{◌≡◌, ◌<◌, ◌≤ℤ◌, ◌⊎◌, ℕ, suc, ℤ, pos, Bool, true, List, [], map, slice_get, slice_set, Option, None, Some}
+use Rattle.std.specs.Prelude.{◌≡◌, ◌<◌, ◌≤ℤ◌, ◌⊎◌, ℕ, suc, ℤ, pos, Bool, true, All, List, ◌∷◌, length, map, slice_get, slice_set, Option, None, Some}
 use Rattle.cti_terms.specs.Listing.{Listing}
 use Rattle.cti_terms.specs.Tree.{Tree}
 use Rattle.call_components.specs.Partition.{Partition}
 use Rattle.exact128.specs.Sums.{dot, entry}
 use Rattle.linear_rows.specs.Members.{In}
-use Rattle.linear_rows.specs.Plain.{plain_rows}
+use Rattle.linear_rows.specs.Plain.{plain_row, plain_rows}
+use Rattle.linear_rows.specs.declared.row.Row.{Row}
 use Rattle.linear_rows.specs.declared.row.Rows.{Rows}
 use Rattle.termination_model.specs.mappings.Coefficients.{coefficient}
 use Rattle.termination_model.specs.claims.Claims.{Mapping}
@@ -31,18 +32,24 @@ Vanishes positions marks l = (k : ℕ) (x : Position) → slice_get positions k 
 abbrev pub IsMarkedAt : List Bool → ℕ → List Bool → Type 0
 IsMarkedAt old k new = (new ≡ old) ⊎ (new ≡ slice_set old k true)
 
--- the numbers of sizes in a column
-abbrev pub sizes_at : Rows → ℕ → List ℤ
-sizes_at sizes x = map (λ e. entry e x) (plain_rows sizes.list)
+-- how fast sizes grow along a direction of the variables
+abbrev pub growths : Rows → List ℤ → List ℤ
+growths sizes d = map (λ e. dot e (pos 0 ∷ d)) (plain_rows sizes.list)
 
--- among the first n arguments of the predicate q, none with a positive coefficient counts in the column
-abbrev pub IsSilent : Mapping → ℕ → Rows → ℕ → ℕ → Type 0
-IsSilent l q sizes x n = (a : ℕ) → a < n → 0 < coefficient (l.coefficients q) a → entry (sizes_at sizes x) a ≡ pos 0
+-- a direction in which the variables can grow for ever while the rows hold
+pub record IsRay (rows : Rows) (d : List ℤ) : Type 0 where
+  pub long : length d ≡ rows.width
+  pub natural : All (λ x. pos 0 ≤ℤ x) d
+  pub holds : All (λ (r : Row). pos 0 ≤ℤ dot (plain_row r) (pos 0 ∷ d)) rows.list
 
--- where no size rows are before a call, the head's level counts in each column at least as much as the call's
-abbrev pub KeepsColumns : Mapping → OwnCall → Type 0
-KeepsColumns l own = own.rows.list ≡ [] → (x : ℕ) → x < own.rows.width
-    → dot (map pos (l.coefficients own.callee.0)) (sizes_at own.callee_sizes (suc x)) ≤ℤ dot (map pos (l.coefficients own.caller.0)) (sizes_at own.caller_sizes (suc x))
+-- among the first n arguments of the predicate q, none with a positive coefficient grows along the direction
+abbrev pub IsSilent : Mapping → ℕ → Rows → List ℤ → ℕ → Type 0
+IsSilent l q sizes d n = (a : ℕ) → a < n → 0 < coefficient (l.coefficients q) a → entry (growths sizes d) a ≡ pos 0
+
+-- where a call can be reached, the head's level grows along each ray at least as fast as the call's
+abbrev pub KeepsRays : Mapping → OwnCall → Type 0
+KeepsRays l own = own.empty ≡ None → (d : List ℤ) → IsRay own.rows d
+    → dot (map pos (l.coefficients own.callee.0)) (growths own.callee_sizes d) ≤ℤ dot (map pos (l.coefficients own.caller.0)) (growths own.caller_sizes d)
 
 -- a place that is marked has no number in the set
 abbrev pub AreUnlisted : List Bool → List ℕ → Type 0

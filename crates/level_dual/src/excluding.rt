@@ -42,7 +42,7 @@ fn marks_outside(
     };
     spread(
         component.calls.as_slice(),
-        paths.order.as_slice(),
+        paths.steps.as_slice(),
         &places,
         &mut marks,
     );

@@ -15,6 +15,7 @@ mod finding;
 mod large;
 mod paths;
 mod places;
+mod rays;
 mod refuting;
 mod searching;
 mod small;

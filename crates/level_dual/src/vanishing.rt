@@ -1,22 +1,25 @@
 //! Coefficients that are 0 in each decreasing mapping where others are 0.
 //!
-//! Where a call has no size rows before it, the head's level counts in the column of each variable at least as much as
-//! the call's. So a column that no positive coefficient of the head counts in has none of the call either. Marks say at
-//! which positions the coefficient is 0.
+//! Along a ray the variables of a call grow for ever while the size rows before it hold, so there the head's level grows
+//! at least as fast as the call's. So along a ray on which no positive coefficient of the head grows, none of the call's
+//! does either. Marks say at which positions the coefficient is 0.
 
-ghost use Rattle.std.specs.Prelude.{◌≡◌, ◌<◌, ◌^◌, ℕ, suc, pos, IfOk, Some, length, slice_get, true};
+ghost use Rattle.std.specs.Prelude.{◌≡◌, ◌<◌, ◌≤ℤ◌, ◌^◌, ◌∷◌, ℕ, pos, IfOk, IfSome, None, Some, length, slice_get, true};
 ghost use Rattle.std.specs.List.{AllByRecursion};
-ghost use Rattle.exact128.specs.Sums.{entry};
+ghost use Rattle.exact128.specs.Sums.{dot, entry};
+ghost use Rattle.linear_rows.specs.Plain.{plain_row};
 ghost use Rattle.level_systems.specs.Recalled.{HasNumbers};
-ghost use Rattle.level_dual.specs.Vanishing.{AreMarkedOrIn, AreUnlisted, IsMarkedAt, IsSilent, KeepsColumns, Vanishes, sizes_at};
+ghost use Rattle.level_dual.specs.Vanishing.{AreMarkedOrIn, AreUnlisted, IsMarkedAt, IsRay, IsSilent, KeepsRays, Vanishes, growths};
 ghost use Rattle.termination_model.specs.mappings.Coefficients.{coefficient};
 ghost use Rattle.termination_model.specs.claims.Claims.{Mapping};
 
+use crate::paths::Step;
 use crate::places::Places;
 use crate::refuting::is_nought;
 use cti_terms::PredId;
 use level_systems::OwnCall;
-use linear_rows::Rows;
+use linear_rows::{Numbers, Row, Rows, are_natural};
+use sequences::Sequence;
 use std::alloc::{AllocError, Global};
 
 /// Whether a place is marked.
@@ -58,18 +61,40 @@ fn mark(places: &Places, marks: &mut Vec<bool>, pred: PredId, argument: usize)
     put_mark(marks, place);
 }
 
-/// The number of an argument's size in the column of a variable.
-fn number(sizes: &Rows, argument: usize, variable: usize) -> i128
+/// How fast the size of an argument grows along a ray, if this is formed in numbers that fit.
+fn growth(sizes: &Rows, argument: usize, ray: &Numbers) -> Option<i128>
     requires { argument < length sizes.now.list }
-    ensures { result ≡ entry (sizes_at sizes.now (suc variable)) argument }
+    ensures { IfSome result (λ growth. growth ≡ entry (growths sizes.now ray.now) argument) }
 {
-    sizes.list.get(argument).coeffs.entry(variable)
+    sizes.list.get(argument).value_at(0, ray.as_slice())
 }
 
-/// Whether an argument counts nothing in the column of a variable, or its position is marked.
+/// Whether it is seen that the size of an argument stays along a ray.
+fn stays(sizes: &Rows, argument: usize, ray: &Numbers) -> bool
+    requires { argument < length sizes.now.list }
+    ensures { result ≡ true → entry (growths sizes.now ray.now) argument ≡ pos 0 }
+{
+    match growth(sizes, argument, ray) {
+        Some(growth) => is_nought(growth),
+        None => false,
+    }
+}
+
+/// Whether it is seen that the size of an argument grows along a ray.
+fn grows(sizes: &Rows, argument: usize, ray: &Numbers) -> bool
+    requires { argument < length sizes.now.list }
+    ensures { result ≡ true → entry (growths sizes.now ray.now) argument ≡ pos 0 → ⊥ }
+{
+    match growth(sizes, argument, ray) {
+        Some(growth) => !is_nought(growth),
+        None => false,
+    }
+}
+
+/// Whether an argument stays along a ray, or its position is marked.
 fn is_silent(
     sizes: &Rows,
-    variable: usize,
+    ray: &Numbers,
     places: &Places,
     marks: &[bool],
     pred: PredId,
@@ -78,109 +103,151 @@ fn is_silent(
     requires { argument < length sizes.now.list }
     ensures { result ≡ true → (l : Mapping) → Vanishes places.now.positions.now marks.now l
         → 0 < coefficient (l.coefficients pred.0) argument
-        → entry (sizes_at sizes.now (suc variable)) argument ≡ pos 0 }
+        → entry (growths sizes.now ray.now) argument ≡ pos 0 }
 {
-    if is_nought(number(sizes, argument, variable)) {
+    if stays(sizes, argument, ray) {
         return true;
     }
     is_marked(places, marks, pred, argument)
 }
 
-/// Whether the head counts nothing in the column of a variable where the coefficients at marked positions are 0.
-fn is_head_silent(own: &OwnCall, variable: usize, places: &Places, marks: &[bool]) -> bool
+/// Whether the head stays along a ray where the coefficients at marked positions are 0.
+fn is_head_silent(own: &OwnCall, ray: &Numbers, places: &Places, marks: &[bool]) -> bool
     ensures { result ≡ true → (l : Mapping) → Vanishes places.now.positions.now marks.now l
-        → IsSilent l own.now.caller.0 own.now.caller_sizes (suc variable)
+        → IsSilent l own.now.caller.0 own.now.caller_sizes ray.now
         (length own.now.caller_sizes.list) }
 {
     let sizes = &own.caller_sizes;
     for argument in 0..sizes.list.len() {
-        if !is_silent(sizes, variable, places, marks, own.caller, argument) {
+        if !is_silent(sizes, ray, places, marks, own.caller, argument) {
             return false;
         }
     }
     true
 }
 
-/// Marks each argument of the call that counts in the column of a variable.
-fn mark_call(own: &OwnCall, variable: usize, places: &Places, marks: &mut Vec<bool>)
-    ensures { (l : Mapping) → IsSilent l own.now.callee.0 own.now.callee_sizes (suc variable)
+/// Marks each argument of the call that grows along a ray.
+fn mark_call(own: &OwnCall, ray: &Numbers, places: &Places, marks: &mut Vec<bool>)
+    ensures { (l : Mapping) → IsSilent l own.now.callee.0 own.now.callee_sizes ray.now
         (length own.now.callee_sizes.list)
         → Vanishes places.now.positions.now marks.old.items l
         → Vanishes places.now.positions.now marks.new.items l }
 {
     for argument in 0..own.callee_sizes.list.len() {
-        if !is_nought(number(&own.callee_sizes, argument, variable)) {
+        if grows(&own.callee_sizes, argument, ray) {
             mark(places, marks, own.callee, argument);
         }
     }
 }
 
-/// Marks what is 0 at a call where the head's marked coefficients are.
-fn spread_at(own: &OwnCall, places: &Places, marks: &mut Vec<bool>)
-    requires { HasNumbers own.now }
-    ensures { (l : Mapping) → KeepsColumns l own.now
-        → Vanishes places.now.positions.now marks.old.items l
-        → Vanishes places.now.positions.now marks.new.items l }
+/// Whether the value of a row does not fall along a ray, as far as this is seen in numbers that fit.
+fn holds_along(row: &Row, ray: &Numbers) -> bool
+    ensures { result ≡ true → pos 0 ≤ℤ dot (plain_row row.now) (pos 0 ∷ ray.now) }
 {
-    if own.rows.list.len() > 0 {
-        return;
+    match row.value_at(0, ray.as_slice()) {
+        Some(value) => value >= 0,
+        None => false,
     }
-    for variable in 0..own.rows.width as usize {
-        if is_head_silent(own, variable, places, marks.as_slice()) {
-            mark_call(own, variable, places, marks);
+}
+
+/// Whether it is seen that numbers are a ray of rows.
+fn is_ray(rows: &Rows, ray: &Numbers) -> bool
+    ensures { result ≡ true → IsRay rows.now ray.now }
+{
+    if ray.len() != rows.width as usize || !are_natural(ray.as_slice()) {
+        return false;
+    }
+    for i in 0..rows.list.len() {
+        if !holds_along(rows.list.get(i), ray) {
+            return false;
         }
     }
+    true
 }
 
-/// Marks what is 0 at the call of this number, if there is one.
-fn spread_from(calls: &[OwnCall], number: usize, places: &Places, marks: &mut Vec<bool>)
-    requires { AllByRecursion HasNumbers calls.now }
-    ensures { (l : Mapping) → AllByRecursion (KeepsColumns l) calls.now
+/// Whether a call can be reached.
+fn is_reached(own: &OwnCall) -> bool
+    ensures { result ≡ true → own.now.empty ≡ None }
+{
+    own.empty.is_none()
+}
+
+/// Marks what is 0 at a call along a ray, if this is a ray of the rows before the call.
+fn spread_along(own: &OwnCall, ray: &Numbers, places: &Places, marks: &mut Vec<bool>)
+    requires { HasNumbers own.now }
+    ensures { (l : Mapping) → KeepsRays l own.now
         → Vanishes places.now.positions.now marks.old.items l
         → Vanishes places.now.positions.now marks.new.items l }
 {
-    if number >= calls.len() {
+    if !is_reached(own) || !is_head_silent(own, ray, places, marks.as_slice()) {
         return;
     }
-    spread_at(&calls[number], places, marks);
-}
-
-/// Marks what is 0 at calls, from the first of an order to the last.
-fn spread_onward(calls: &[OwnCall], order: &[usize], places: &Places, marks: &mut Vec<bool>)
-    requires { AllByRecursion HasNumbers calls.now }
-    ensures { (l : Mapping) → AllByRecursion (KeepsColumns l) calls.now
-        → Vanishes places.now.positions.now marks.old.items l
-        → Vanishes places.now.positions.now marks.new.items l }
-{
-    for i in 0..order.len() {
-        spread_from(calls, order[i], places, marks);
+    if is_ray(&own.rows, ray) {
+        mark_call(own, ray, places, marks);
     }
 }
 
-/// Marks what is 0 at calls, from the last of an order to the first.
-fn spread_back(calls: &[OwnCall], order: &[usize], places: &Places, marks: &mut Vec<bool>)
-    requires { AllByRecursion HasNumbers calls.now }
-    ensures { (l : Mapping) → AllByRecursion (KeepsColumns l) calls.now
+/// Marks what is 0 at a call where the head's marked coefficients are.
+fn spread_at(own: &OwnCall, rays: &Sequence<Numbers>, places: &Places, marks: &mut Vec<bool>)
+    requires { HasNumbers own.now }
+    ensures { (l : Mapping) → KeepsRays l own.now
         → Vanishes places.now.positions.now marks.old.items l
         → Vanishes places.now.positions.now marks.new.items l }
 {
-    for i in 0..order.len() {
-        spread_from(calls, order[order.len() - 1 - i], places, marks);
+    for i in 0..rays.len() {
+        spread_along(own, rays.get(i), places, marks);
     }
 }
 
-/// Marks what is 0 at calls where the marked coefficients are, going over the calls a few times, in this order of
-/// their numbers and from its end.
-pub(crate) fn spread(calls: &[OwnCall], order: &[usize], places: &Places, marks: &mut Vec<bool>)
+/// Marks what is 0 at the call of a step, if there is one.
+fn spread_from(calls: &[OwnCall], step: &Step, places: &Places, marks: &mut Vec<bool>)
     requires { AllByRecursion HasNumbers calls.now }
-    ensures { (l : Mapping) → AllByRecursion (KeepsColumns l) calls.now
+    ensures { (l : Mapping) → AllByRecursion (KeepsRays l) calls.now
         → Vanishes places.now.positions.now marks.old.items l
         → Vanishes places.now.positions.now marks.new.items l }
 {
-    spread_onward(calls, order, places, marks);
-    spread_onward(calls, order, places, marks);
-    spread_back(calls, order, places, marks);
-    spread_back(calls, order, places, marks);
+    if step.call >= calls.len() {
+        return;
+    }
+    spread_at(&calls[step.call], &step.rays, places, marks);
+}
+
+/// Marks what is 0 at calls, from the first step to the last.
+fn spread_onward(calls: &[OwnCall], steps: &[Step], places: &Places, marks: &mut Vec<bool>)
+    requires { AllByRecursion HasNumbers calls.now }
+    ensures { (l : Mapping) → AllByRecursion (KeepsRays l) calls.now
+        → Vanishes places.now.positions.now marks.old.items l
+        → Vanishes places.now.positions.now marks.new.items l }
+{
+    for i in 0..steps.len() {
+        spread_from(calls, &steps[i], places, marks);
+    }
+}
+
+/// Marks what is 0 at calls, from the last step to the first.
+fn spread_back(calls: &[OwnCall], steps: &[Step], places: &Places, marks: &mut Vec<bool>)
+    requires { AllByRecursion HasNumbers calls.now }
+    ensures { (l : Mapping) → AllByRecursion (KeepsRays l) calls.now
+        → Vanishes places.now.positions.now marks.old.items l
+        → Vanishes places.now.positions.now marks.new.items l }
+{
+    for i in 0..steps.len() {
+        spread_from(calls, &steps[steps.len() - 1 - i], places, marks);
+    }
+}
+
+/// Marks what is 0 at calls where the marked coefficients are, going over the calls a few times, in the order of these
+/// steps and from their end.
+pub(crate) fn spread(calls: &[OwnCall], steps: &[Step], places: &Places, marks: &mut Vec<bool>)
+    requires { AllByRecursion HasNumbers calls.now }
+    ensures { (l : Mapping) → AllByRecursion (KeepsRays l) calls.now
+        → Vanishes places.now.positions.now marks.old.items l
+        → Vanishes places.now.positions.now marks.new.items l }
+{
+    spread_onward(calls, steps, places, marks);
+    spread_onward(calls, steps, places, marks);
+    spread_back(calls, steps, places, marks);
+    spread_back(calls, steps, places, marks);
 }
 
 /// Marks at all places but those of a set's numbers, which count from 1.
