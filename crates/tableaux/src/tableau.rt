@@ -10,7 +10,12 @@
 //! that have its column, and most systems stay sparse. The numbers of a row have no divisor in common with its
 //! denominator, which keeps them as small as determinants of the rows' numbers.
 //!
-//! Source: integer pivoting as in Edmonds 1967, and the choice of the smallest index as in Bland 1977.
+//! The first pivots are chosen by the smallest index. Where they do not end soon, pivots are chosen that change few
+//! numbers, as a system of many rows stays sparse then; and in the end by the smallest index again, since no tableau
+//! comes twice by it.
+//!
+//! Source: integer pivoting as in Edmonds 1967, the choice of the smallest index as in Bland 1977, and the choice of few
+//! numbers in a row and in a column as in Markowitz 1957.
 
 ghost use Rattle.std.specs.Prelude.{◌+◌, ◌<◌, ◌^◌, length};
 
@@ -30,6 +35,9 @@ pub struct Tableau {
     free: Vec<usize>,
     // The denominator of each row.
     denominators: Vec<i128>,
+    // How many numbers other than 0 each row has, and each column.
+    in_rows: Vec<usize>,
+    in_columns: Vec<usize>,
 }
 
 impl Drop for Tableau {
@@ -40,8 +48,22 @@ impl Drop for Tableau {
             basic: _,
             free: _,
             denominators: _,
+            in_rows: _,
+            in_columns: _,
         } = self;
     }
+}
+
+/// How many pivots are chosen by the smallest index at first.
+const PIVOTS_BY_INDEX: usize = 64;
+
+/// How a pivot is chosen.
+#[derive(Clone, Copy)]
+enum Choice {
+    /// By the smallest index of a variable.
+    Index,
+    /// By the fewest numbers in a row, and in a column.
+    Fewest,
 }
 
 /// How pivots end.
@@ -66,23 +88,42 @@ impl Tableau {
         let basic = counted(alloc, width, many)?;
         let free = counted(alloc, 0, width)?;
         let denominators = vec![in alloc; 1; many]?;
-        Ok(Tableau {
+        let in_rows = vec![in alloc; 0; many]?;
+        let in_columns = vec![in alloc; 0; width + 1]?;
+        let mut tableau = Tableau {
             numbers,
             columns: width + 1,
             basic,
             free,
             denominators,
-        })
+            in_rows,
+            in_columns,
+        };
+        tableau.count();
+        Ok(tableau)
+    }
+
+    /// Counts the numbers other than 0 of each row and each column.
+    fn count(&mut self) {
+        for row in 0..self.basic.len() {
+            for column in 0..self.columns {
+                if self.number(row, column) != 0 {
+                    raise(&mut self.in_rows, row);
+                    raise(&mut self.in_columns, column);
+                }
+            }
+        }
     }
 
     /// Makes pivots until the rows hold or fail, but at most `most`.
     pub fn run(&mut self, alloc: Global, most: usize) -> Result<End, AllocError> {
-        for _ in 0..most {
-            let row = self.leaving();
+        for made in 0..most {
+            let choice = choice_after(made, most);
+            let row = self.leaving(choice);
             if row == self.basic.len() {
                 return Ok(End::Holding);
             }
-            let column = self.entering(row);
+            let column = self.entering(row, choice);
             if column == self.columns {
                 return Ok(End::Failing(row));
             }
@@ -156,7 +197,16 @@ impl Tableau {
     /// Puts a number into a row and a column.
     fn set(&mut self, row: usize, column: usize, number: i128) {
         let place = self.place(row, column);
+        let before = self.number(row, column);
         put(&mut self.numbers, place, number);
+        if before == 0 && number != 0 {
+            raise(&mut self.in_rows, row);
+            raise(&mut self.in_columns, column);
+        }
+        if before != 0 && number == 0 {
+            lower(&mut self.in_rows, row);
+            lower(&mut self.in_columns, column);
+        }
     }
 
     /// Where the number of a row and a column stands.
@@ -173,27 +223,41 @@ impl Tableau {
         }
     }
 
-    /// The row of the first variable whose constant is below 0, or the number of rows.
-    fn leaving(&self) -> usize {
-        let mut first = usize::MAX;
+    /// The row, among those whose constant is below 0, of the first variable or with the fewest numbers. It is the number
+    /// of rows where there is none.
+    fn leaving(&self, choice: Choice) -> usize {
+        let mut least = usize::MAX;
         let mut at = self.basic.len();
         for row in 0..self.basic.len() {
-            if self.basic[row] < first && self.number(row, 0) < 0 {
-                first = self.basic[row];
-                at = row;
+            if self.number(row, 0) < 0 {
+                let weight = match choice {
+                    Choice::Index => self.basic[row],
+                    Choice::Fewest => entry(self.in_rows.as_slice(), row),
+                };
+                if weight < least {
+                    least = weight;
+                    at = row;
+                }
             }
         }
         at
     }
 
-    /// The column of the first variable that raises a row's variable, or the number of columns.
-    fn entering(&self, row: usize) -> usize {
-        let mut first = usize::MAX;
+    /// The column, among those whose variable raises a row's variable, of the first variable or with the fewest numbers.
+    /// It is the number of columns where there is none.
+    fn entering(&self, row: usize, choice: Choice) -> usize {
+        let mut least = usize::MAX;
         let mut at = self.columns;
         for j in 0..self.free.len() {
-            if self.free[j] < first && self.number(row, j + 1) > 0 {
-                first = self.free[j];
-                at = j + 1;
+            if self.number(row, j + 1) > 0 {
+                let weight = match choice {
+                    Choice::Index => self.free[j],
+                    Choice::Fewest => entry(self.in_columns.as_slice(), j + 1),
+                };
+                if weight < least {
+                    least = weight;
+                    at = j + 1;
+                }
             }
         }
         at
@@ -322,6 +386,15 @@ impl Tableau {
     }
 }
 
+/// How the next pivot is chosen, after so many of at most `most`.
+fn choice_after(made: usize, most: usize) -> Choice {
+    if made < PIVOTS_BY_INDEX || most / 2 <= made {
+        Choice::Index
+    } else {
+        Choice::Fewest
+    }
+}
+
 /// The numbers of rows, one row after the other.
 fn numbers_of(alloc: Global, rows: &Rows) -> Result<Vec<i128>, AllocError> {
     let mut numbers = Vec::new(alloc);
@@ -357,6 +430,29 @@ fn multiple(a: i128, b: i128) -> i128 {
 fn put(numbers: &mut Vec<i128>, place: usize, number: i128) {
     if place < numbers.len() {
         numbers[place] = number;
+    }
+}
+
+/// The number at a place, or 0 where there is none.
+fn entry(counts: &[usize], place: usize) -> usize {
+    if place < counts.len() {
+        counts[place]
+    } else {
+        0
+    }
+}
+
+/// Counts one more at a place, if there is one.
+fn raise(counts: &mut Vec<usize>, place: usize) {
+    if place < counts.len() {
+        counts[place] = counts[place].saturating_add(1);
+    }
+}
+
+/// Counts one less at a place, if there is one.
+fn lower(counts: &mut Vec<usize>, place: usize) {
+    if place < counts.len() {
+        counts[place] = counts[place].saturating_sub(1);
     }
 }
 
