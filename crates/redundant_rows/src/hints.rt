@@ -111,14 +111,14 @@ impl Hints {
 
     /// Only the rows that are marked as kept are left.
     pub(crate) fn leave(&mut self, marks: &[Mark]) {
-        let mut place = 0;
-        for k in 0..marks.len() {
-            if is_kept(marks[k]) {
-                place += 1;
-            } else {
-                self.forget(place);
+        let mut left = 0;
+        for place in 0..self.witnesses.len() {
+            if place < marks.len() && is_kept(marks[place]) {
+                self.witnesses.swap(left, place);
+                left += 1;
             }
         }
+        self.witnesses.truncate(left);
     }
 
     /// Decides whether the row at a place holds on the others.
