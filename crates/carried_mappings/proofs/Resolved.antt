@@ -12,6 +12,7 @@ use Rattle.termination_model.specs.chains.Chain.{clauses_of}
 use Rattle.termination_model.specs.mappings.ComponentViews.{members_in}
 use Rattle.termination_model.specs.sizes.Sizes.{rows_of}
 use Rattle.termination_model.proofs.Lists.{place_below, there}
+use Rattle.level_systems.specs.Found.{nothing}
 use Rattle.level_systems.specs.Mappings.{IsMappingOf}
 use Rattle.level_systems.specs.declared.found.Found.{Found}
 use Rattle.level_systems.specs.declared.mapping.Mapping.{Mapping}
@@ -26,7 +27,7 @@ use Rattle.solved_program.proofs.Resolved.{each_more, one_longer}
 use Rattle.carried_mappings.specs.Carrying.{AreClauseNumbers, CarriesOver, IsStanding, new_number}
 use Rattle.carried_mappings.specs.Moved.{moved, moved_found, moved_refutation}
 use Rattle.carried_mappings.specs.Order.{AreSameMappings, HaveSameMembers, HaveSameOrder}
-use Rattle.carried_mappings.specs.FoundMappings.{AreFound, AreFoundTo, AreKeptFound, AreMappingSources, IsCarriedAt, IsFoundAt, IsKept, IsKeptFrom, nothing, number_in}
+use Rattle.carried_mappings.specs.FoundMappings.{AreFound, AreFoundTo, AreKeptFound, AreMappingSources, IsCarriedAt, IsFoundAt, IsKept, IsKeptFrom, number_in}
 use Rattle.carried_mappings.specs.declared.resolving.MappingSources.{MappingSources}
 use Rattle.carried_mappings.specs.declared.standing.Standing.{Standing}
 use Rattle.carried_mappings.proofs.Carries.{own_numbers}

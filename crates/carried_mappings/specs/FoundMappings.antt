@@ -2,7 +2,7 @@
 -- What is found of the mappings of a program's components.
 --
 -- To believe: `AreFound`, `KeepFound`.
-use Rattle.std.specs.Prelude.{◌≡◌, ℕ, ℤ, false, true, List, [], length, map, option_map, slice_get, None, Some}
+use Rattle.std.specs.Prelude.{◌≡◌, ℕ, ℤ, false, true, List, length, map, option_map, slice_get, Some}
 use Rattle.std.specs.List.{AllByRecursion}
 use Rattle.call_components.specs.Partition.{Partition}
 use Rattle.cti_terms.specs.Listing.{Listing}
@@ -11,7 +11,7 @@ use Rattle.cti_terms.specs.declared.clauses.Clause.{Clause}
 use Rattle.termination_model.specs.chains.Chain.{clauses_of}
 use Rattle.termination_model.specs.mappings.ComponentViews.{members_in}
 use Rattle.termination_model.specs.sizes.Sizes.{AreSizes, rows_of}
-use Rattle.level_systems.specs.Found.{IsFound}
+use Rattle.level_systems.specs.Found.{IsFound, nothing}
 use Rattle.level_systems.specs.declared.found.Found.{Found}
 use Rattle.level_systems.specs.declared.mapping.Mapping.{Mapping}
 use Rattle.level_systems.specs.declared.measure.Measure.{Measure}
@@ -22,10 +22,6 @@ use Rattle.solved_program.specs.declared.edit.Edit.{Edit}
 use Rattle.carried_mappings.specs.Moved.{moved, moved_found, moved_refutation}
 use Rattle.carried_mappings.specs.Order.{AreSameMappings, HaveSameOrder}
 use Rattle.carried_mappings.specs.declared.resolving.MappingSources.{MappingSources}
-
--- no mapping, no refutation, and no set that was given up
-abbrev pub nothing : Found
-nothing = record { mappings = []; refutation = None; blown = []; large = false }
 
 module _ (expression : ℕ → Tree → List ℤ) (p : Listing) (comps : Partition) (rows : ℕ → List (List ℤ)) where
   -- what is found of a component: nothing, where it is not recursive

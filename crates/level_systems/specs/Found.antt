@@ -1,8 +1,8 @@
 -- To believe, for the modes.
 -- What is found of a component's mappings: all minimal supports, or a refutation, or what was given up.
 --
--- To believe: all of this file.
-use Rattle.std.specs.Prelude.{◌≡◌, ◌≢◌, ◌↔◌, ◌<◌, ◌≤◌, ◌⊎◌, not, nat_eq, ℕ, suc, ℤ, true, false, IsTrue, List, map, filter, length, Option, None, Some, ◌≤ℤ◌, pos, All}
+-- To believe: all of this file but `nothing`.
+use Rattle.std.specs.Prelude.{◌≡◌, ◌≢◌, ◌↔◌, ◌<◌, ◌≤◌, ◌⊎◌, not, nat_eq, ℕ, suc, ℤ, true, false, IsTrue, List, [], map, filter, length, Option, None, Some, ◌≤ℤ◌, pos, All}
 use Rattle.std.specs.List.{AllByRecursion}
 use Rattle.cti_terms.specs.Listing.{Listing}
 use Rattle.cti_terms.specs.Tree.{Tree}
@@ -28,6 +28,10 @@ use Rattle.termination_model.specs.mappings.Supports.{picked_from}
 use Rattle.level_systems.specs.Mappings.{IsMappingOf, mapping_with, support_of}
 use Rattle.level_systems.specs.Subsequences.{AreOnce, IsSubsequence}
 use Rattle.level_systems.specs.declared.found.Found.{Found}
+
+-- no mapping, no refutation, and no set that was given up
+abbrev pub nothing : Found
+nothing = record { mappings = []; refutation = None; blown = []; large = false }
 
 -- the set without a number
 abbrev pub without_number : ℕ → List ℕ → List ℕ

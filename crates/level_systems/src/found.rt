@@ -1,6 +1,6 @@
 //! What is found of a component's mappings.
 
-ghost use Rattle.std.specs.Prelude.{◌≡◌, [], None, false};
+ghost use Rattle.std.specs.Prelude.{◌≡◌};
 
 use crate::mapping::Mapping;
 use number_tests::Refutation;
@@ -37,9 +37,11 @@ impl Drop for Found {
 }
 
 impl Found {
+    ghost use Rattle.level_systems.specs.Found.{nothing};
+
     /// Nothing, where no mappings are searched for.
     pub fn nothing(alloc: Global) -> Found
-        ensures { result ≡ record { mappings = []; refutation = None; blown = []; large = false } }
+        ensures { result ≡ nothing }
     {
         Found {
             mappings: Sequence::new(alloc),
