@@ -101,6 +101,7 @@ fn leave_out(
     alloc: Global,
     p: &Program,
     component: &Component,
+    paths: &Paths,
     support: &[u32],
 ) -> Result<LeftOut, AllocError>
     requires sound { IsSound p.now component.now }
@@ -111,12 +112,11 @@ fn leave_out(
         (λ out. ForComponent p.now component.now (λ expression comps rows c.
         AreOnce support.now → IsLeftOut expression p.now comps rows c support.now out)) }
 {
-    let paths = Paths::of(alloc, component)?;
     let mut blown = Sequence::new(alloc);
     let mut known = None;
     for number in support {
         let set = without_number(alloc, support, *number)?;
-        match search_unless_excluded(alloc, p, component, &paths, set.as_slice(), &mut known)? {
+        match search_unless_excluded(alloc, p, component, paths, set.as_slice(), &mut known)? {
             Answer::Mapping(mapping) => {
                 // The support of a mapping at this set is smaller. It is tested, since the caller's loop ends by that.
                 let smaller = support_of(alloc, component.positions.as_slice(), &mapping)?;
@@ -147,10 +147,11 @@ pub fn find_large(
         → IsFound expression p.now comps rows c f)) }
     ensures some { IfOk result (λ f. 1 ≤ length f.mappings) }
 {
+    let paths = Paths::of(alloc, p, component)?;
     let mut mapping = mapping;
     loop {
         let support = support_of(alloc, component.positions.as_slice(), &mapping)?;
-        match leave_out(alloc, p, component, support.as_slice())? {
+        match leave_out(alloc, p, component, &paths, support.as_slice())? {
             LeftOut::Smaller(smaller) => mapping = smaller,
             LeftOut::None(blown) => {
                 let mut mappings = Sequence::new(alloc);

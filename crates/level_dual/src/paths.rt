@@ -2,8 +2,7 @@
 
 use crate::places::starts_of;
 use crate::rays::rays_of;
-use crate::vanishing::{has_mark, put_mark};
-use cti_terms::PredId;
+use cti_terms::{PredId, Program};
 use level_systems::{Component, OwnCall};
 use linear_rows::Numbers;
 use sequences::Sequence;
@@ -36,47 +35,81 @@ impl Drop for Paths {
 
 impl Paths {
     /// Those of a component.
-    pub(crate) fn of(alloc: Global, component: &Component) -> Result<Paths, AllocError> {
+    pub(crate) fn of(
+        alloc: Global,
+        p: &Program,
+        component: &Component,
+    ) -> Result<Paths, AllocError> {
         let starts = starts_of(alloc, component.positions.as_slice())?;
-        let steps = steps_of(alloc, component.calls.as_slice())?;
+        let steps = steps_of(alloc, p.preds(), component.calls.as_slice())?;
         Ok(Paths { starts, steps })
     }
 }
 
-/// The number of the first call that is not taken, of those that a predicate makes if one is left, or else of all. When
-/// all are taken it is the number of calls.
-fn next_call(calls: &[OwnCall], taken: &[bool], caller: PredId) -> usize {
-    let mut first = calls.len();
-    for number in 0..calls.len() {
-        if has_mark(taken, number) {
-            continue;
-        }
-        if calls[number].caller.0 == caller.0 {
-            return number;
-        }
-        if number < first {
-            first = number;
+/// Chains the calls of each predicate: `first` gets the first one that it makes, and `later` the next one after each call.
+/// The number of all calls stands for none.
+fn chain_calls(calls: &[OwnCall], first: &mut Vec<usize>, later: &mut Vec<usize>) {
+    for after in 0..calls.len() {
+        let number = calls.len() - 1 - after;
+        let caller = calls[number].caller.0 as usize;
+        if caller < first.len() && number < later.len() {
+            later[number] = first[caller];
+            first[caller] = number;
         }
     }
-    first
 }
 
-/// A step for each call, each after one that calls its caller where that can be.
-fn steps_of(alloc: Global, calls: &[OwnCall]) -> Result<Vec<Step>, AllocError> {
-    let mut taken = vec![in alloc; false; calls.len()]?;
-    let mut steps = Vec::new(alloc);
-    let mut number = 0;
-    for _taken in 0..calls.len() {
+/// Takes the first call of a predicate out of its chain, if one is left.
+fn take_first(caller: PredId, first: &mut Vec<usize>, later: &[usize]) -> Option<usize> {
+    let number = *first.get(caller.0 as usize)?;
+    let next = *later.get(number)?;
+    first[caller.0 as usize] = next;
+    Some(number)
+}
+
+/// Adds the steps of a call that a predicate makes, of one that its callee makes, and so on, as long as one is left.
+fn follow(
+    alloc: Global,
+    calls: &[OwnCall],
+    from: PredId,
+    first: &mut Vec<usize>,
+    later: &[usize],
+    steps: &mut Vec<Step>,
+) -> Result<(), AllocError> {
+    let mut caller = from;
+    for _step in 0..calls.len() {
+        let Some(number) = take_first(caller, first, later) else {
+            return Ok(());
+        };
         if number >= calls.len() {
-            return Ok(steps);
+            return Ok(());
         }
-        put_mark(&mut taken, number);
         let own = &calls[number];
-        steps.push(Step {
-            call: number,
-            rays: rays_of(alloc, own)?,
-        })?;
-        number = next_call(calls, taken.as_slice(), own.callee);
+        let rays = rays_of(alloc, own)?;
+        steps.push(Step { call: number, rays })?;
+        caller = own.callee;
+    }
+    Ok(())
+}
+
+/// A step for each call, each after one that calls its caller where that can be. The program has `preds` predicates.
+fn steps_of(alloc: Global, preds: u32, calls: &[OwnCall]) -> Result<Vec<Step>, AllocError> {
+    let mut first = vec![in alloc; calls.len(); preds as usize]?;
+    let mut later = vec![in alloc; calls.len(); calls.len()]?;
+    chain_calls(calls, &mut first, &mut later);
+    let mut steps = Vec::new(alloc);
+    for number in 0..calls.len() {
+        let caller = calls[number].caller;
+        if first.get(caller.0 as usize) == Some(&number) {
+            follow(
+                alloc,
+                calls,
+                caller,
+                &mut first,
+                later.as_slice(),
+                &mut steps,
+            )?;
+        }
     }
     Ok(steps)
 }

@@ -27,7 +27,7 @@ loop-number-preserved c = λ size truth expression comps rows r h once.
     let later = c.search_unless_excluded.ensures.known size truth expression comps rows r h known in
     let set : c.in_ok-set.set ≡ without_number i s = c.in_ok-set.ensures in
     let slice : c.as_slice.result.now ≡ without_number i s = c.as_slice.ensures ∙ set in (
-      elim c.match-branch-4.branch [
+      elim c.match-branch-3.branch [
         | in-Mapping+in_ok-smaller-in-Mapping+else-len-support+in_ok-push-in-Mapping w ↦
             subst (AreTried expression p comps rows r s (k + 1)) (sym (w.blown-is ∙ w.in_ok-push-in-Mapping.ensures.ok ∙ ap (λ t. c.loop-number.blown ++ t ∷ []) set))
             (given_up_too expression p comps rows r s k i at c.loop-number.blown before once (absurd (
