@@ -47,7 +47,7 @@ eq_or_less zero (suc n) l = inr (omega arith)
 eq_or_less (suc m) zero l = absurd (omega (arith, l))
 eq_or_less (suc m) (suc n) l = elim (eq_or_less m n (omega (arith, l))) [ inl e ↦ inl (ap suc e) | inr lt ↦ inr (omega (arith, lt)) ]
 
-in_columns : (n lo x : ℕ) → lo ≤ x → x < lo + n → In x (columns lo n)
+pub in_columns : (n lo x : ℕ) → lo ≤ x → x < lo + n → In x (columns lo n)
 in_columns zero lo x l u = absurd (omega (arith, l, u))
 in_columns (suc n) lo x l u = elim (eq_or_less lo x l) [ inl e ↦ inl e | inr lt ↦ inr (in_columns n (suc lo) x (omega (arith, lt)) (omega (arith, u))) ]
 

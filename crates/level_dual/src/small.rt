@@ -73,7 +73,7 @@ pub(crate) fn find_small(
         → (given_up ≡ false → ((s : List ℕ) → HasSupportIn expression p.now comps rows c s → ⊥) → ⊥)
         → IsFound expression p.now comps rows c f)) }
 {
-    let walked = walk(alloc, p, component, component.positions.len() as u32)?;
+    let walked = walk(alloc, p, component, full.as_slice())?;
     let none = walked.mappings.is_empty();
     let Walked {
         found: _,

@@ -4,9 +4,12 @@ ghost use Rattle.std.specs.Prelude.{◌≡◌, ◌||◌, ◌<◌, ◌^◌, ◌+�
 ghost use Rattle.std.specs.List.{list_any};
 ghost use Rattle.level_systems.specs.Searched.{IsSound};
 ghost use Rattle.level_dual.specs.Components.{ForComponent};
+ghost use Rattle.level_dual.specs.Needed.{AreNeeded};
 ghost use Rattle.level_dual.specs.Walked.{IsAllWalked, IsWalkedTo};
+ghost use Rattle.linear_rows.specs.Step.{columns};
 ghost use Rattle.termination_model.specs.grounds.Modes.{chosen_up_to, is_part};
 
+use crate::needed::{needed_positions, walk_needed};
 use crate::searching::search;
 use crate::walked::Walked;
 use cti_terms::Program;
@@ -56,11 +59,12 @@ pub fn copied_sets(
     Ok(copies)
 }
 
-/// Searches at one more set, unless it is above one that was found or given up.
+/// Searches at one more set, unless it is above one that was found or given up, or lacks a position that is needed.
 fn visit(
     alloc: Global,
     p: &Program,
     component: &Component,
+    needed: &[u32],
     set: &[u32],
     walked: &mut Walked,
 ) -> Result<(), AllocError>
@@ -68,12 +72,17 @@ fn visit(
     ensures { IfOk result (λ done. ForComponent p.now component.now (λ expression comps rows c.
         (i : ℕ) → slice_get (chosen_up_to (length component.now.positions.items)
         (length component.now.positions.items)) i ≡ Some set.now
+        → AreNeeded expression p.now comps rows c
+        (columns 1 (length component.now.positions.items)) needed.now
         → IsWalkedTo expression p.now comps rows c
         (length component.now.positions.items) i walked.old
         → IsWalkedTo expression p.now comps rows c (length component.now.positions.items)
         (suc i) walked.new)) }
 {
     if is_passed(walked, set) {
+        return Ok(());
+    }
+    if !is_part(needed, set) {
         return Ok(());
     }
     match search(alloc, p, component, set)? {
@@ -88,17 +97,20 @@ fn visit(
 }
 
 /// Searches at all sets of positions but for those above one that was found or given up.
-pub(crate) fn walk(
+fn walk_all(
     alloc: Global,
     p: &Program,
     component: &Component,
+    needed: &[u32],
     last: u32,
 ) -> Result<Walked, AllocError>
     requires sound { IsSound p.now component.now }
     requires last { last ≡ length component.now.positions.items }
     requires small { last + 1 < 2 ^ 32 }
     ensures { IfOk result (λ walked. ForComponent p.now component.now (λ expression comps rows c.
-        IsAllWalked expression p.now comps rows c walked)) }
+        AreNeeded expression p.now comps rows c
+        (columns 1 (length component.now.positions.items)) needed.now
+        → IsAllWalked expression p.now comps rows c walked)) }
 {
     let mut walked = Walked {
         found: Sequence::new(alloc),
@@ -107,7 +119,29 @@ pub(crate) fn walk(
     };
     let sets = number_sets(alloc, last)?;
     for set in sets.as_slice() {
-        visit(alloc, p, component, set.as_slice(), &mut walked)?;
+        visit(alloc, p, component, needed, set.as_slice(), &mut walked)?;
     }
+    Ok(walked)
+}
+
+/// Searches for all minimal supports, at the positions that are needed first.
+pub(crate) fn walk(
+    alloc: Global,
+    p: &Program,
+    component: &Component,
+    full: &[u32],
+) -> Result<Walked, AllocError>
+    requires sound { IsSound p.now component.now }
+    requires full { full.now ≡ columns 1 (length component.now.positions.items) }
+    requires small { length component.now.positions.items + 1 < 2 ^ 32 }
+    ensures { IfOk result (λ walked. ForComponent p.now component.now (λ expression comps rows c.
+        IsAllWalked expression p.now comps rows c walked)) }
+{
+    let needed = needed_positions(alloc, p, component, full)?;
+    if let Some(walked) = walk_needed(alloc, p, component, needed.as_slice())? {
+        return Ok(walked);
+    }
+    let last = component.positions.len() as u32;
+    let walked = walk_all(alloc, p, component, needed.as_slice(), last)?;
     Ok(walked)
 }
