@@ -41,6 +41,7 @@ use Rattle.level_systems.specs.Refuted.{ArePoints, AreSpelled, HasPoints, IsInFi
 use Rattle.level_systems.specs.Searched.{IsComponent}
 use Rattle.level_systems.specs.declared.component.Component.{Component}
 use Rattle.level_systems.specs.declared.own_call.OwnCall.{OwnCall}
+use Rattle.level_dual.specs.Accepted.{AreAccepted}
 use Rattle.level_dual.proofs.Ascending.{AscendFrom, live_ascend, pairs_ascend}
 use Rattle.level_dual.proofs.Excluded.{callees, callers, of_members, rows_number}
 use Rattle.level_systems.proofs.HeldCalls.{all_in, all_live, in_calls, lives_in, lives_own, re, rows_are}
@@ -230,12 +231,12 @@ module _ (size : (ℕ → ℕ) → Tree → ℕ) (truth : (ℕ → Bool) → Tre
     good : AllByRecursion (IsGood expression p comps rows c) xs
     good = stand_good expression p comps rows c owns held_lives inside_lives fit.numbers xs stand fit.fits.values fit.fits.seconds refutation.pairs
 
-    pub formed_accepted : PairsAscend (0, 0) xs × AllByRecursion HasPoints xs
+    formed_accepted : PairsAscend (0, 0) xs × AllByRecursion HasPoints xs
     formed_accepted =
         let all : AscendFrom (0, 0) (map numbers_of_call x.calls.items) = subst (AscendFrom (0, 0)) (sym h.pairs) (pairs_ascend comps c (0, 0) 0 p.clauses (omega arith)) in
         (stand_ascend expression p comps rows c (0, 0) owns fit.numbers xs stand (live_ascend (0, 0) x.calls.items all), stand_points expression p comps rows c owns held_lives fit.numbers xs stand)
 
-    pub sums_accepted : SumsRefute expression p (members_in comps c) xs
+    sums_accepted : SumsRefute expression p (members_in comps c) xs
     sums_accepted =
         let heads = stand_heads expression p comps rows c owns fit.numbers long xs stand in
         let calls = stand_calls expression p comps rows c owns fit.numbers long xs stand in
@@ -253,5 +254,10 @@ module _ (size : (ℕ → ℕ) → Tree → ℕ) (truth : (ℕ → Bool) → Tre
               (subst (λ (z : ℤ). entry (gather q (map (head_load expression) pairs)) i ≤ℤ z) (sym b) (refutation.columns q i));
         }
 
-    pub points_accepted : AllByRecursion (PointHolds expression p rows) xs
-    points_accepted = all_map (IsGood expression p comps rows c) (PointHolds expression p rows) (λ y g. g.1) xs good
+    pub points_accepted : AreAccepted expression p rows (members_in comps c) xs
+    points_accepted = record {
+      ascend = formed_accepted.0;
+      points = formed_accepted.1;
+      sums = sums_accepted;
+      hold = all_map (IsGood expression p comps rows c) (PointHolds expression p rows) (λ y g. g.1) xs good;
+    }

@@ -12,6 +12,7 @@ pub mod LargeLaws
 pub mod LiveCalls
 pub mod Loads
 pub mod MemberLaws
+mod NeededLaws
 pub mod PartLaws
 pub mod PointLists
 pub mod RefuteLaws

@@ -1,6 +1,6 @@
--- Points of a component's calls are pairs of the program.
-use Rattle.std.proofs.Common.{◌≡◌, ◌⊎◌, ℕ, zero, suc, drop, false, ◌+◌, ◌-◌, ◌<◌, ◌≤◌, ℤ, List, [], ◌∷◌, length, slice_get, Option, None, Some, inl, inr, refl, ap, sym, subst, ◌∙◌, arith}
-use Rattle.std.specs.Prelude.{IfSome, is_some}
+-- Points of a component's calls are pairs of the program, and those that the check accepts are a refutation.
+use Rattle.std.proofs.Common.{◌≡◌, ◌⊎◌, ℕ, zero, suc, drop, ◌+◌, ◌-◌, ◌<◌, ◌≤◌, ℤ, List, [], ◌∷◌, length, slice_get, Option, None, Some, inl, inr, refl, ap, sym, subst, ◌∙◌, arith}
+use Rattle.std.specs.Prelude.{IfSome}
 use Rattle.std.specs.List.{AllByRecursion}
 use Rattle.cti_terms.specs.Listing.{Listing}
 use Rattle.cti_terms.specs.Tree.{Tree}
@@ -12,14 +12,17 @@ use Rattle.linear_rows.specs.Members.{In}
 use Rattle.linear_rows.specs.declared.point.Point.{Point}
 use Rattle.number_tests.specs.Shape.{IsPairOf}
 use Rattle.number_tests.specs.declared.pair_point.PairPoint.{PairPoint}
+use Rattle.number_tests.specs.declared.refutation.Refutation.{Refutation}
 use Rattle.termination_model.proofs.Lists.{place_below}
+use Rattle.termination_model.specs.mappings.ComponentViews.{members_in}
 use Rattle.level_systems.specs.Held.{IsHeld}
 use Rattle.level_systems.specs.Pairs.{call_at, clause_at}
-use Rattle.level_systems.specs.Found.{IsOwnPair, PairsAscend}
+use Rattle.level_systems.specs.Found.{IsOwnPair, IsRefutationOf, PairsAscend}
 use Rattle.level_systems.specs.Refuted.{HasPoints, HasWidths, IsOfCalls, IsPointAt}
 use Rattle.level_systems.proofs.PairLists.{drop_at}
 use Rattle.level_systems.specs.Searched.{IsSoundCall}
 use Rattle.level_systems.specs.declared.own_call.OwnCall.{OwnCall}
+use Rattle.level_dual.specs.Accepted.{AreAccepted}
 
 widths_long : (m n : ℕ) (o : Option Point) → m ≡ n → IfSome o (λ (y : Point). length y.w ≡ m) → IfSome o (λ (y : Point). length y.w ≡ n)
 widths_long m n None e h = tt
@@ -82,6 +85,25 @@ module _ (expression : ℕ → Tree → List ℤ) (p : Listing) (comps : Partiti
         are_own owns h callers callees xs all.1 points.1,
       )
 
+  module _ (owns : List OwnCall) (held : AllByRecursion (IsHeld expression p rows) owns) (callers : AllByRecursion (λ (own : OwnCall). IsIn comps c own.caller.0) owns)
+      (callees : AllByRecursion (λ (own : OwnCall). IsIn comps c own.callee.0) owns) where
+    -- points of these calls that the check of a certificate accepts are a refutation
+    pub is_refutation : (r : Refutation) → AllByRecursion (IsOfCalls owns) r.points → AreAccepted expression p rows (members_in comps c) r.points → IsRefutationOf expression p comps rows c r
+    is_refutation r mine accepted = record {
+      pairs = are_pairs expression p rows owns held r.points mine;
+      ascend = accepted.ascend;
+      own = are_own owns held callers callees r.points mine accepted.points;
+      sums = accepted.sums;
+      points = accepted.hold;
+    }
+
+    -- the same of what the code accepts, if it accepts something
+    pub refutation_if : (xs : List PairPoint) → AllByRecursion (IsOfCalls owns) xs → (o : Option Refutation)
+        → IfSome o (λ r. (r.points ≡ xs) × AreAccepted expression p rows (members_in comps c) xs) → IfSome o (IsRefutationOf expression p comps rows c)
+    refutation_if xs mine None given = tt
+    refutation_if xs mine (Some r) given =
+        is_refutation r (subst (AllByRecursion (IsOfCalls owns)) (sym given.0) mine) (subst (AreAccepted expression p rows (members_in comps c)) (sym given.0) given.1)
+
 -- the steps of the test whether pairs ascend with their points
 pub more_ascend : (points : List PairPoint) (i : ℕ) (x : PairPoint) (clause call : ℕ) → slice_get points i ≡ Some x → (clause < x.clause) ⊎ ((clause ≡ x.clause) × (call < x.call))
     → (PairsAscend (clause, call) (drop i points) → PairsAscend (0, 0) points) → PairsAscend (x.clause, x.call) (drop (i + 1) points) → PairsAscend (0, 0) points
@@ -100,7 +122,3 @@ none_left (x ∷ xs) (suc i) l = none_left xs i (omega (arith, l))
 pub sound_widths : (p : Listing) (members : List ℕ) (owns : List OwnCall) → AllByRecursion (IsSoundCall p members) owns → AllByRecursion HasWidths owns
 sound_widths p members [] h = tt
 sound_widths p members (own ∷ owns) h = let first = h.0 in let numbers = first.numbers in (numbers.widths, sound_widths p members owns h.1)
-
-pub none_of : {X : Type 0} (o : Option X) → is_some o ≡ false → o ≡ None
-none_of None e = refl
-none_of (Some x) e = cc

@@ -5,6 +5,7 @@ ghost use Rattle.std.specs.List.{AllByRecursion};
 ghost use Rattle.call_components.specs.Numbers.{number_of};
 ghost use Rattle.call_components.specs.Partition.{IsIn, Partition};
 ghost use Rattle.cti_terms.specs.Tree.{Tree};
+ghost use Rattle.level_dual.specs.Accepted.{AreAccepted};
 ghost use Rattle.level_systems.specs.Found.{IsNaturalPoint, IsRefutationOf, PairsAscend};
 ghost use Rattle.level_systems.specs.Held.{IsHeld, live_of};
 ghost use Rattle.level_systems.specs.Recalled.{Recalls};
@@ -14,7 +15,7 @@ ghost use Rattle.linear_rows.specs.Members.{In};
 ghost use Rattle.linear_rows.specs.Plain.{HaveWidth};
 ghost use Rattle.linear_rows.specs.Step.{columns};
 ghost use Rattle.level_systems.specs.declared.own_call.OwnCall.{OwnCall};
-ghost use Rattle.number_tests.specs.Shape.{IsBefore, place_of_pair};
+ghost use Rattle.number_tests.specs.Shape.{IsBefore, IsPairOf, place_of_pair};
 ghost use Rattle.termination_model.specs.mappings.BlownSupports.{IsBlownAt};
 ghost use Rattle.termination_model.specs.mappings.OwnCalls.{OwnCall as Recalled};
 ghost use Rattle.termination_model.specs.mappings.Ready.{arity_in};
@@ -22,7 +23,7 @@ ghost use Rattle.termination_model.specs.sizes.Sizes.{AreSizes, rows_of};
 ghost use Rattle.termination_model.specs.mappings.Supports.{picked_from};
 ghost use Rattle.termination_model.specs.mappings.ComponentViews.{HasSupportIn, component_view, members_in, positions_in};
 
-use cti_terms::Program;
+use cti_terms::{PredId, Program};
 use fourier::{ElimFault, Solved};
 use level_systems::{Component, OwnCall, point_of, solve_by, support_system};
 use linear_rows::{Numbers, Point, are_natural};
@@ -210,7 +211,7 @@ fn is_after(clause: u32, call: u32, x: &PairPoint) -> bool
 }
 
 /// Whether pairs ascend, each with the points that it needs.
-pub fn are_formed(points: &[PairPoint]) -> bool
+fn are_formed(points: &[PairPoint]) -> bool
     ensures { IsTrue result ↔ (PairsAscend (0, 0) points.now
         × AllByRecursion HasPoints points.now) }
 {
@@ -227,6 +228,36 @@ pub fn are_formed(points: &[PairPoint]) -> bool
         call = x.call;
     }
     true
+}
+
+/// The refutation with these points, if the check of a certificate accepts them.
+pub fn accepted<N: Norm>(
+    alloc: Global,
+    p: &Program,
+    norm: &N,
+    sizes: &Sizes,
+    members: &[PredId],
+    points: Sequence<PairPoint>,
+) -> Result<Option<Refutation>, AllocError>
+    requires sizes { AreSizes p.now.preds sizes.now.rows }
+    requires pairs { AllByRecursion (IsPairOf p.now) points }
+    ensures some { IfOk result (λ o. IfSome o (λ r. (r.points ≡ points)
+        × AreAccepted (N.expression norm.now) p.now (rows_of sizes.now.rows)
+        (map number_of members.now) points)) }
+    ensures none { IfOk result (λ o. o ≡ None
+        → AreAccepted (N.expression norm.now) p.now (rows_of sizes.now.rows)
+        (map number_of members.now) points → ⊥) }
+{
+    if !are_formed(points.as_slice()) {
+        return Ok(None);
+    }
+    if sums_flaw(alloc, p, norm, &sizes.rows, members, points.as_slice())?.is_some() {
+        return Ok(None);
+    }
+    if points_flaw(alloc, p, norm, &sizes.rows, points.as_slice())?.is_some() {
+        return Ok(None);
+    }
+    Ok(Some(Refutation { points }))
 }
 
 /// The refutation of a component by one way of solving.
@@ -258,16 +289,7 @@ fn refutation_by<N: Norm>(
     let Some(points) = refuting_points(alloc, p, component, by_pivots)? else {
         return Ok(None);
     };
-    if !are_formed(points.as_slice()) {
-        return Ok(None);
-    }
-    let members = component.members.as_slice();
-    let sums = sums_flaw(alloc, p, norm, &sizes.rows, members, points.as_slice())?;
-    let flaw = points_flaw(alloc, p, norm, &sizes.rows, points.as_slice())?;
-    if sums.is_some() || flaw.is_some() {
-        return Ok(None);
-    }
-    Ok(Some(Refutation { points }))
+    accepted(alloc, p, norm, sizes, component.members.as_slice(), points)
 }
 
 /// The refutation of a component, where the system of all positions is refuted in numbers that the check of a

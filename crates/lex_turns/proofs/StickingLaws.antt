@@ -42,11 +42,12 @@ use Rattle.level_systems.specs.declared.component.Component.{Component}
 use Rattle.level_systems.specs.declared.own_call.OwnCall.{OwnCall}
 use Rattle.level_systems.specs.declared.position.Position.{Position}
 use Rattle.level_systems.proofs.HeldCalls.{all_in, re}
+use Rattle.level_dual.specs.Accepted.{AreAccepted}
 use Rattle.level_dual.proofs.AcceptedPoints.{stand_good}
 use Rattle.level_dual.proofs.Ascending.{AscendFrom, ascend_lower, pairs_ascend}
 use Rattle.level_dual.proofs.Loads.{gathers_same, sums_fit}
 use Rattle.level_dual.proofs.PartLaws.{are_naturals}
-use Rattle.level_dual.proofs.RefuteLaws.{are_own, are_pairs}
+use Rattle.level_dual.proofs.RefuteLaws.{is_refutation}
 use Rattle.level_dual.proofs.SearchLaws.{take_mapped}
 use Rattle.level_dual.proofs.SpelledPoints.{Stand, stand_ascend, stand_calls, stand_heads, stand_points, stand_positive}
 use Rattle.linear_rows.proofs.Soundness.{law_empty}
@@ -54,7 +55,7 @@ use Rattle.lex_turns.specs.Coursing.{IsStopped}
 use Rattle.lex_turns.specs.Descending.{IsTurnBlown, turn_solution}
 use Rattle.lex_turns.specs.Descending.IsTurnBlown.{solving, sticking}
 use Rattle.lex_turns.specs.FoundLists.{IsStuckSetOf}
-use Rattle.lex_turns.specs.Sticking.{AreAccepted, AreAt, ArePlain, ArePlainIf, ArePlainOf, AreRefuting, AreRefutingIf, IsBlownWhereStopped, IsUnrefuted, lines_of, unknowns_of}
+use Rattle.lex_turns.specs.Sticking.{AreAt, ArePlain, ArePlainIf, ArePlainOf, AreRefuting, AreRefutingIf, IsBlownWhereStopped, IsUnrefuted, lines_of, unknowns_of}
 use Rattle.lex_turns.specs.Sticking.IsUnrefuted.{blown, found, short}
 use Rattle.lex_turns.specs.Testing.{AreAmong}
 use Rattle.lex_turns.specs.Tracking.{kept}
@@ -114,13 +115,7 @@ module _ (size : (ℕ → ℕ) → Tree → ℕ) (truth : (ℕ → Bool) → Tre
       let count = plain_count rest plain.0 r.points plain.1 in
       record {
         some = omega (arith, some, count);
-        refutes = record {
-          pairs = are_pairs expression p rows rest held r.points calls;
-          ascend = accepted.ascend;
-          own = are_own expression p comps rows c rest held callers callees r.points calls accepted.points;
-          sums = accepted.sums;
-          points = accepted.hold;
-        };
+        refutes = is_refutation expression p comps rows c rest held callers callees r calls accepted;
         single = plain_single rest plain.0 r.points plain.1;
       }
 

@@ -11,12 +11,9 @@ use Rattle.linear_rows.specs.Proves.{Refutes}
 use Rattle.linear_rows.specs.Rows.{IsPoint}
 use Rattle.linear_rows.specs.Solving.{solution}
 use Rattle.linear_rows.specs.Solving.Solution.{Blown, Refuted}
-use Rattle.number_tests.specs.Refuting.{PointHolds, SumsRefute}
 use Rattle.number_tests.specs.declared.pair_point.PairPoint.{PairPoint}
 use Rattle.termination_model.specs.lists.TurnSystem.{turn_rows, turn_unknowns}
-use Rattle.level_systems.specs.Found.{PairsAscend}
 use Rattle.level_systems.specs.Held.{spelled}
-use Rattle.level_systems.specs.Refuted.{HasPoints}
 use Rattle.level_systems.specs.declared.component.Component.{Component}
 use Rattle.level_systems.specs.declared.own_call.OwnCall.{OwnCall}
 use Rattle.level_systems.specs.declared.position.Position.{Position}
@@ -67,13 +64,6 @@ module _ (owns : List OwnCall) (n : ℕ) (lines : List (List ℤ)) where
   abbrev pub AreRefutingIf : Option (List PairPoint) → Type 0
   AreRefutingIf None = IsUnrefuted
   AreRefutingIf (Some xs) = AreRefuting xs
-
--- the points are those of a stuck set in the check of a certificate
-pub record AreAccepted (expression : ℕ → Tree → List ℤ) (p : Listing) (rows : ℕ → List (List ℤ)) (members : List ℕ) (xs : List PairPoint) : Type 0 where
-  pub ascend : PairsAscend (0, 0) xs
-  pub points : AllByRecursion HasPoints xs
-  pub sums : SumsRefute expression p members xs
-  pub hold : AllByRecursion (PointHolds expression p rows) xs
 
 -- each of these positions is among those
 abbrev pub AreAt : List Position → List Position → Type 0

@@ -2,7 +2,6 @@
 
 ghost use Rattle.std.specs.Prelude.{◌≡◌, ◌+◌, ◌≤◌, ℕ, ℤ, List, IfOk, IfSome, None, false, length, map};
 ghost use Rattle.std.specs.List.{AllByRecursion};
-ghost use Rattle.call_components.specs.Numbers.{number_of};
 ghost use Rattle.call_components.specs.Partition.{Partition};
 ghost use Rattle.level_dual.specs.Components.{ForComponent};
 ghost use Rattle.level_systems.specs.Held.{IsHeld, spelled};
@@ -11,9 +10,8 @@ ghost use Rattle.level_systems.specs.Turned.{held_of};
 ghost use Rattle.lex_turns.specs.Coursing.{IsStopped};
 ghost use Rattle.lex_turns.specs.Descending.{IsGivenUp};
 ghost use Rattle.lex_turns.specs.FoundLists.{IsStuckSetOf};
-ghost use Rattle.lex_turns.specs.Sticking.{AreAccepted, AreAt, ArePlainIf, ArePlainOf, AreRefutingIf, IsBlownWhereStopped, IsPlain, lines_of, unknowns_of};
+ghost use Rattle.lex_turns.specs.Sticking.{AreAt, ArePlainIf, ArePlainOf, AreRefutingIf, IsBlownWhereStopped, IsPlain, lines_of, unknowns_of};
 ghost use Rattle.lex_turns.specs.Testing.{AreAmong};
-ghost use Rattle.number_tests.specs.Shape.{IsPairOf};
 ghost use Rattle.termination_model.specs.mappings.ComponentViews.{component_view};
 ghost use Rattle.termination_model.specs.mappings.Ready.{arity_in};
 ghost use Rattle.termination_model.specs.sizes.Sizes.{AreSizes, rows_of};
@@ -21,12 +19,12 @@ ghost use Rattle.termination_model.specs.sizes.Sizes.{AreSizes, rows_of};
 use crate::tracking::kept;
 use crate::turn::Round;
 use crate::turning::system_of;
-use cti_terms::{PredId, Program};
+use cti_terms::Program;
 use fourier::{ElimFault, Solved};
-use level_dual::are_formed;
+use level_dual::accepted;
 use level_systems::{Component, OwnCall, Position, solve_by};
 use linear_rows::{Numbers, Point};
-use number_tests::{PairPoint, Refutation, points_flaw, sums_flaw};
+use number_tests::{PairPoint, Refutation};
 use sequences::Sequence;
 use std::alloc::{AllocError, Global};
 use term_size::Norm;
@@ -39,7 +37,7 @@ pub(crate) struct Halt<'a> {
     pub(crate) gone: &'a [bool],
 }
 
-// A way of solving the system of a turn.
+/// A way of solving the system of a turn.
 #[derive(Drop)]
 struct Attempt<'a> {
     round: Round<'a>,
@@ -106,36 +104,6 @@ fn refuting_points(
         Err(ElimFault::Blown { .. }) => Ok(None),
         Err(ElimFault::Memory) => Err(AllocError),
     }
-}
-
-/// The refutation with these points, if the check of a certificate accepts them.
-fn accepted<N: Norm>(
-    alloc: Global,
-    p: &Program,
-    norm: &N,
-    sizes: &Sizes,
-    members: &[PredId],
-    points: Sequence<PairPoint>,
-) -> Result<Option<Refutation>, AllocError>
-    requires sizes { AreSizes p.now.preds sizes.now.rows }
-    requires pairs { AllByRecursion (IsPairOf p.now) points }
-    ensures some { IfOk result (λ o. IfSome o (λ r. (r.points ≡ points)
-        × AreAccepted (N.expression norm.now) p.now (rows_of sizes.now.rows)
-        (map number_of members.now) points)) }
-    ensures none { IfOk result (λ o. o ≡ None
-        → AreAccepted (N.expression norm.now) p.now (rows_of sizes.now.rows)
-        (map number_of members.now) points → ⊥) }
-{
-    if !are_formed(points.as_slice()) {
-        return Ok(None);
-    }
-    if sums_flaw(alloc, p, norm, &sizes.rows, members, points.as_slice())?.is_some() {
-        return Ok(None);
-    }
-    if points_flaw(alloc, p, norm, &sizes.rows, points.as_slice())?.is_some() {
-        return Ok(None);
-    }
-    Ok(Some(Refutation { points }))
 }
 
 /// The stuck set of the calls that remain, by one way of solving.
