@@ -33,7 +33,7 @@ use Rattle.lex_turns.specs.Coursing.{IsAdvanced, IsCourse, KeepReached, SomeLeft
 use Rattle.lex_turns.specs.FoundLists.{AreNeeded}
 use Rattle.lex_turns.proofs.Leaving.{first_reached, left_needed, more_left, more_reached}
 use Rattle.lex_turns.specs.Descending.{AreMeasuresOf, AreReached, HasPlace, IsGivenUp, IsListAt, IsMeasureOf, IsTurnBlown, is_first}
-use Rattle.lex_turns.specs.Descending.IsGivenUp.{turned, zero as zero_fails}
+use Rattle.lex_turns.specs.Descending.IsGivenUp.{turned}
 use Rattle.lex_turns.specs.Descending.AreMeasuresAt.{turned as measured_turned, zero as measured_zero}
 use Rattle.number_tests.specs.Drops.{fall_number}
 use Rattle.lex_turns.specs.Testing.{EmptyFall, SomeFalls}
@@ -54,6 +54,7 @@ use Rattle.lex_turns.specs.declared.turn.Made.{Made}
 use Rattle.lex_turns.proofs.Places.{pairs_are, places_are}
 use Rattle.lex_turns.proofs.TrackedCalls.{after_long, first_kept, first_tracked, kept_count, kept_left, tracked_more, zero_tracked}
 use Rattle.lex_turns.proofs.TurnMaking.{drops_long}
+use Rattle.lex_turns.proofs.ZeroTargets.{zero_fits}
 
 pub both : (b : Bool) → b ≡ true → b ≡ false → ⊥
 both b e f = cc
@@ -223,6 +224,13 @@ module _ (size : (ℕ → ℕ) → Tree → ℕ) (truth : (ℕ → Bool) → Tre
   first_same ps qs names qqs (u ∷ us) [] are = absurd are
   first_same ps qs names qqs (u ∷ us) (ms ∷ mss) are = refl
 
+  -- a call that is never reached falls where the mapping is 0
+  pub zeros_fall : (ms : List Measure) → AreZeros p (map number_of x.members.items) ms → EmptyFall ms x.calls.items
+  zeros_fall ms zeros =
+      let l = mapping_at (arity_in p) [] [] [] [] in
+      all_dead size truth expression h.norm p comps rows c ms l zeros.parts x.calls.items h.held (wide_heads size truth expression p comps rows c x h ms (zero_shaped p (map number_of x.members.items) ms zeros) x.calls.items h.held)
+      (subst (λ (os : List Recalled). AllByRecursion (λ (o : Recalled). row_fits (fall_over expression o.rule o.member o.call.args 1 l) ≡ true) os) (calls_are expression p comps rows c x.calls.items h.pairs h.held) (zero_fits expression (arity_in p) view))
+
   module _ (at : List Position) where
     abbrev turns_at : List Recalled → List Turn → Type 0
     turns_at lives us = AreTurns expression (map spelled at) (members_of view) lives us
@@ -298,14 +306,6 @@ module _ (size : (ℕ → ℕ) → Tree → ℕ) (truth : (ℕ → Bool) → Tre
         let us : told.turns ≡ [] = no_turns ps qs (members_in comps c) told.turns (subst (AreMeasuresOf p (members_in comps c) ps qs told.turns) em told.measures) in
         let lives_none : lives ≡ [] = ap (remaining lives) (sym us) ∙ told.left ∙ ap (map own) none in
         subst (AreReached expression (own_calls view)) lives_none reached
-
-    pub zero_given_up : (course : Course) → IsCourse p x at course → course.measures ≡ [] → remaining_of x course ≡ [] → (ms : List Measure) → AreZeros p (map number_of x.members.items) ms → (EmptyFall ms x.calls.items → ⊥)
-        → IsGivenUp expression view (arity_in p) (map spelled at)
-    zero_given_up course is_course em none ms zeros fails =
-        let l = mapping_at (arity_in p) [] [] [] [] in
-        zero_fails (zero_reached course is_course em none) (λ fit. fails
-        (all_dead size truth expression h.norm p comps rows c ms l zeros.parts x.calls.items h.held (wide_heads size truth expression p comps rows c x h ms (zero_shaped p (map number_of x.members.items) ms zeros) x.calls.items h.held)
-        (subst (λ (os : List Recalled). AllByRecursion (λ (o : Recalled). row_fits (fall_over expression o.rule o.member o.call.args 1 l) ≡ true) os) (calls_are expression p comps rows c x.calls.items h.pairs h.held) fit)))
 
     pub zero_list_at : (course : Course) (l : MeasureList) → IsCourse p x at course → course.measures ≡ [] → remaining_of x course ≡ [] → AllByRecursion IsReady x.calls.items → (ms : List Measure) → AreZeros p (map number_of x.members.items) ms
         → EmptyFall ms x.calls.items → l.measures ≡ ms ∷ [] → l.drops ≡ course.drops.items → IsListAt expression p comps rows c (map spelled at) l × AreNeeded expression p comps rows c l

@@ -23,3 +23,4 @@ pub mod StuckWithin
 pub mod TrackedCalls
 pub mod TurnMaking
 pub mod WholeTurns
+pub mod ZeroTargets

@@ -106,8 +106,6 @@ module _ (expression : ℕ → Tree → List ℤ) (view : List Rule) (arity : �
     undecided : (o : OwnCall) → In o (own_calls view) → TestIsBlown o.rule.vars (rows_before expression o) (bottom_row o.rule.vars) → IsGivenUp
     turned : (lives : List OwnCall) (us : List Turn) → AreReached expression (own_calls view) lives → AreTurns expression positions (members_of view) lives us
         → 1 ≤ length (remaining lives us) → IsTurnBlown (is_first us) (remaining lives us) → IsGivenUp
-    -- no call is ever reached, and the target of one does not fit where the mapping is 0
-    zero : AreReached expression (own_calls view) [] → (EmptyFit expression view arity (mapping_at arity [] [] [] []) → ⊥) → IsGivenUp
 
 module _ (expression : ℕ → Tree → List ℤ) (p : Listing) (comps : Partition) (rows : ℕ → List (List ℤ)) (c : ℕ) where
   abbrev pub view : List Rule

@@ -13,7 +13,6 @@ ghost use Rattle.level_systems.specs.Turned.{all_rows};
 ghost use Rattle.termination_model.specs.mappings.Supports.{AreDistinct};
 
 use crate::course::{Course, Ended, Next};
-use crate::dropping::empty_fall;
 use crate::measure_list::MeasureList;
 use crate::tracking::{add_drops, after_falls, drops_first, gone_first, kept};
 use crate::turn::{Made, Round, Step};
@@ -120,9 +119,6 @@ fn zero_list(
         IsEnded expression p.now comps rows c component.now at ended)) }
 {
     let measures = zero_measures(alloc, p, component.members.as_slice())?;
-    if !empty_fall(alloc, component.calls.as_slice(), measures.as_slice())? {
-        return Ok(Ended::GivenUp);
-    }
     let Course {
         gone: _,
         drops,

@@ -7,7 +7,6 @@ use crate::call_drops::CallDrops;
 use crate::copies::copied_measures;
 use crate::measure_list::MeasureList;
 use level_systems::{Fall, Mapping};
-use linear_rows::Multipliers;
 use sequences::Sequence;
 use std::alloc::{AllocError, Global};
 
@@ -16,10 +15,7 @@ fn drop_of(alloc: Global, fall: &Fall) -> Result<CallDrops, AllocError>
     ensures { IfOk result (λ drop. drop ≡ drop_of_fall fall.now) }
 {
     let mut by = Sequence::new(alloc);
-    by.push(Multipliers {
-        scale: fall.by.scale,
-        list: fall.by.list.copy(alloc)?,
-    })?;
+    by.push(fall.by.copy(alloc)?)?;
     Ok(CallDrops {
         clause: fall.clause,
         call: fall.call,

@@ -28,10 +28,7 @@ fn given(alloc: Global, own: &OwnCall) -> Result<Sequence<Multipliers>, AllocErr
 {
     let mut given = Sequence::new(alloc);
     if let Some(by) = &own.empty {
-        given.push(Multipliers {
-            scale: by.scale,
-            list: by.list.copy(alloc)?,
-        })?;
+        given.push(by.copy(alloc)?)?;
     }
     Ok(given)
 }
