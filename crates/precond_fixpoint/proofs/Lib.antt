@@ -3,6 +3,7 @@ pub mod BreakingLaws
 pub mod ComponentLaws
 pub mod CoveringLaws
 pub mod Depending
+mod EmptyMode
 pub mod FamilyLaws
 pub mod MemberLaws
 pub mod ModeLaws

@@ -1,5 +1,5 @@
 -- Elements of lists of lists by their places, and components by their members.
-use Rattle.std.proofs.Common.{◌≡◌, inl, inr, ℕ, zero, suc, ◌+◌, ◌<◌, ◌==◌, Bool, true, false, List, [], ◌∷◌, ◌++◌, length, map, take, slice_get, slice_index_or, Option, None, Some, unwrap_or, refl, ap, sym, ◌∙◌, arith, eqb-true}
+use Rattle.std.proofs.Common.{◌≡◌, inl, inr, ℕ, zero, suc, ◌+◌, ◌<◌, ◌==◌, true, false, List, [], ◌∷◌, ◌++◌, length, map, take, slice_get, slice_index_or, Option, None, Some, unwrap_or, refl, ap, sym, ◌∙◌, arith, eqb-true}
 use Rattle.std.specs.List.{Any, Contains}
 use Rattle.std.proofs.lemmas.Bool.{cases_eq, cases_lt, eq-eqb}
 use Rattle.std.proofs.lemmas.Bool.Decides.{nat_tests}

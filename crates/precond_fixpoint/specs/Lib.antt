@@ -4,3 +4,4 @@ pub mod Greatest
 pub mod Removing
 pub mod Setting
 pub mod Solving
+pub mod Tables

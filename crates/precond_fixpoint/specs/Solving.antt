@@ -6,7 +6,7 @@
 --
 -- To believe: `is_member`, `pre_family`, `allowed_family`, `AreLevels`, `IsSolved`, `AreModes`.
 -- Source: preconditions as in Mesnard and Neumerkel 2001, one greatest solution for each mapping.
-use Rattle.std.specs.Prelude.{◌≡◌, ℕ, ◌<◌, ◌==◌, Bool, false, List, length, map, slice_get, Option, None, Some}
+use Rattle.std.specs.Prelude.{◌≡◌, ℕ, ◌<◌, Bool, List, length, map, slice_get, Some}
 use Rattle.std.specs.List.{list_any}
 use Rattle.bool_diagrams.specs.Rows.{IsDiagram, ReadsBelow}
 use Rattle.bool_diagrams.specs.Tree.{Tree as Rows}

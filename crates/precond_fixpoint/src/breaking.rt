@@ -40,8 +40,8 @@ fn leaving_rows<N: Norm>(
     Ok(rows)
 }
 
-/// Values of a clause's variables that give its head just the truth rows that it has where its own row is in its set and a
-/// call is reached that is not in its own, all values of the latter kind among them.
+/// Values of a clause's variables: all at which the head's row is in its set and a call is reached whose row is not in the
+/// call's, and perhaps others, but at those the head has no other rows than at these.
 ///
 /// A variable is left out once neither the head nor a call to come asks for it.
 fn breaking_values<N: Norm>(

@@ -6,8 +6,9 @@ ghost use Rattle.bool_diagrams.specs.Cubes.{truth_rows};
 ghost use Rattle.bool_diagrams.specs.Rows.{IsDiagram, ReadsBelow};
 ghost use Rattle.cti_terms.specs.Listing.{IsProgram};
 ghost use Rattle.precond_fixpoint.specs.Solving.{AreModes, arguments_of};
+ghost use Rattle.precond_fixpoint.specs.Tables.{AreTables};
 ghost use Rattle.termination_model.specs.claims.Descent.{mode_row};
-ghost use Rattle.termination_model.specs.grounds.Modes.{is_part, modes};
+ghost use Rattle.termination_model.specs.grounds.Modes.{chosen_up_to, is_part, modes};
 ghost use Rattle.truth_rows.specs.Sets.{AreSets, family_of};
 
 use crate::mode::Mode;
@@ -30,11 +31,40 @@ pub fn all_modes(
     ensures { IfOk result (AreModes p.now.preds (family_of p.now.preds table.now sets.now)) }
 {
     let mut list = Sequence::new(alloc);
+    let mut tables = Vec::new(alloc);
     for q in 0..p.preds() {
         let arity = p.pred(PredId(q)).arity;
-        let own = minimal_modes(alloc, table, sets[q as usize], arity)?;
+        add_tables(alloc, &mut tables, arity)?;
+        let lists = tables[arity as usize].as_slice();
+        let own = modes_among(alloc, table, sets[q as usize], arity, lists)?;
         list.push(own)?;
     }
+    Ok(list)
+}
+
+/// Adds tables of lists of arguments, until there is one for this number of arguments.
+fn add_tables(
+    alloc: Global,
+    tables: &mut Vec<Sequence<Sequence<u32>>>,
+    arity: u32,
+) -> Result<(), AllocError>
+    requires tables { AreTables tables.old.items }
+    requires narrow { arity ≤ MOST_ARGUMENTS }
+    ensures tables { OnOk result (AreTables tables.new.items) }
+    ensures there { OnOk result (arity < length tables.new.items) }
+{
+    for count in tables.len()..arity as usize + 1 {
+        tables.push(number_sets(alloc, count as u32)?)?;
+    }
+    Ok(())
+}
+
+/// The mode without arguments, by itself.
+fn empty_mode(alloc: Global) -> Result<Sequence<Mode>, AllocError>
+    ensures { IfOk result (λ list. map arguments_of list ≡ [] ∷ []) }
+{
+    let mut list = Sequence::new(alloc);
+    add_mode(alloc, &mut list, &[])?;
     Ok(list)
 }
 
@@ -51,7 +81,29 @@ pub fn minimal_modes(
     ensures { IfOk result (λ list. map arguments_of list ≡ modes arity (truth_rows table.now set)) }
 {
     let lists = number_sets(alloc, arity)?;
-    let admitted = admitted_lists(alloc, table, set, arity, lists.into_vec())?;
+    let own = modes_among(alloc, table, set, arity, lists.as_slice())?;
+    Ok(own)
+}
+
+/// The same of these lists, which are all there are.
+fn modes_among(
+    alloc: Global,
+    table: &Table,
+    set: Diagram,
+    arity: u32,
+    lists: &[Sequence<u32>],
+) -> Result<Sequence<Mode>, AllocError>
+    requires known { IsDiagram table.now set }
+    requires reads { ReadsBelow table.now set arity }
+    requires narrow { arity ≤ MOST_ARGUMENTS }
+    requires lists { lists.now ≡ chosen_up_to arity arity }
+    ensures { IfOk result (λ list. map arguments_of list ≡ modes arity (truth_rows table.now set)) }
+{
+    // The mode without arguments is part of each other one.
+    if admits(table, set, &[], arity) {
+        return empty_mode(alloc);
+    }
+    let admitted = admitted_lists(alloc, table, set, arity, lists)?;
     minimal_lists(alloc, admitted.as_slice())
 }
 
@@ -61,18 +113,18 @@ fn admitted_lists(
     table: &Table,
     set: Diagram,
     arity: u32,
-    lists: Vec<Sequence<u32>>,
+    lists: &[Sequence<u32>],
 ) -> Result<Vec<Sequence<u32>>, AllocError>
     requires known { IsDiagram table.now set }
     requires reads { ReadsBelow table.now set arity }
     requires narrow { arity ≤ MOST_ARGUMENTS }
     ensures { IfOk result (λ admitted. admitted.items ≡ filter
-        (λ args. truth_rows table.now set (mode_row args 1 arity)) lists.items) }
+        (λ args. truth_rows table.now set (mode_row args 1 arity)) lists.now) }
 {
     let mut admitted = Vec::new(alloc);
     for args in lists {
         if admits(table, set, args.as_slice(), arity) {
-            admitted.push(args)?;
+            admitted.push(args.copy(alloc)?)?;
         }
     }
     Ok(admitted)

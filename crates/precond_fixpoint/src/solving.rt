@@ -196,9 +196,10 @@ fn solve_each<N: Norm>(
 
 /// Puts into the places of a component's members its greatest preconditions for each of its mappings, and what these allow.
 ///
-/// `sets` and `allowed` are those of the components that it calls. What the places of members hold before counts nothing,
-/// nor which marks there are, and the places of other predicates stay. `pre` has a set for each predicate, whatever it is,
-/// and is used for the members' sets of one mapping at a time. Out of memory, the table keeps its earlier diagrams.
+/// `sets` and `allowed` are those of the components that it calls. What the places of members hold before does not
+/// matter, nor do the marks there are, and the places of other predicates stay. `pre` has a set for each predicate,
+/// whatever it is, and is used for the members' sets of one mapping at a time. Out of memory, the table keeps its earlier
+/// diagrams.
 pub fn solve_component<N: Norm>(
     alloc: Global,
     setting: &Setting<N>,

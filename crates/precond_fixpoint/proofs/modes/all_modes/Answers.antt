@@ -14,16 +14,25 @@ use Rattle.truth_rows.proofs.SetLaws.{none}
 use Rattle.truth_rows.specs.Sets.{family_of}
 use Rattle.precond_fixpoint.proofs.modes.all_modes.Goals as goal
 
-pub minimal_modes-requires-clause-reads : goal.minimal_modes-requires-clause-reads
-minimal_modes-requires-clause-reads c =
+pub modes_among-requires-clause-reads : goal.modes_among-requires-clause-reads
+modes_among-requires-clause-reads c =
     let q = c.loop-q.q in
     let x = c.pred.result.now in
     let lt = place_below c.args.p.now.preds q x c.pred.ensures in
     let at = there c.args.sets.now q none (omega (arith, c.requires.sets.each, lt)) in
     c.requires.sets.reads q x.arity (slice_index_or c.args.sets.now q none) at (has_arity c.args.p.now.preds q x c.pred.ensures)
 
-pub minimal_modes-requires-clause-narrow : goal.minimal_modes-requires-clause-narrow
-minimal_modes-requires-clause-narrow c = by_places (λ (x : Pred). x.arity ≤ 12) c.args.p.now.preds c.requires.program.arities c.loop-q.q c.pred.result.now c.pred.ensures
+pub modes_among-requires-clause-narrow : goal.modes_among-requires-clause-narrow
+modes_among-requires-clause-narrow c = by_places (λ (x : Pred). x.arity ≤ 12) c.args.p.now.preds c.requires.program.arities c.loop-q.q c.pred.result.now c.pred.ensures
+
+pub add_tables-requires-clause-narrow : goal.add_tables-requires-clause-narrow
+add_tables-requires-clause-narrow c = by_places (λ (x : Pred). x.arity ≤ 12) c.args.p.now.preds c.requires.program.arities c.loop-q.q c.pred.result.now c.pred.ensures
+
+pub modes_among-requires-clause-lists : goal.modes_among-requires-clause-lists
+modes_among-requires-clause-lists c =
+    let tables = c.add_tables.new.tables.items in
+    let at = there tables c.pred.result.now.arity c.index.result.now c.in_ok-add_tables.ensures.there in
+    c.as_slice-lists.ensures ∙ c.index.ensures ∙ c.in_ok-add_tables.ensures.tables c.pred.result.now.arity (slice_index_or tables c.pred.result.now.arity c.index.result.now) at
 
 pub loop-q-preserved : goal.loop-q-preserved
 loop-q-preserved c =
@@ -41,6 +50,7 @@ loop-q-preserved c =
     let one = c.in_ok-own.ensures ∙ modes_same x.arity (truth_rows T d) (family_of preds T sets q) (λ row long. sym (family_at preds T sets q x d row c.pred.ensures at (sym long))) in
     record {
       count = omega (arith, ap length c.in_ok-push.ensures.ok, pushed_length list new, i.count);
+      tables = c.in_ok-add_tables.ensures.tables;
       minimal = subst (λ (xs : List (List Mode)). (r : ℕ) (own : List Mode) → slice_get xs r ≡ Some own → (y : Pred) → slice_get preds r ≡ Some y → map arguments_of own ≡ modes y.arity (family_of preds T sets r)) (sym c.in_ok-push.ensures.ok)
           (pushed (λ (r : ℕ) (own : List Mode). (y : Pred) → slice_get preds r ≡ Some y → map arguments_of own ≡ modes y.arity (family_of preds T sets r)) list new i.minimal
           (λ y e.
