@@ -18,7 +18,7 @@ pub(crate) fn flattened(alloc: Global, parts: &mut LexParts) -> Result<Parts, Al
     Ok(Parts {
         norm: None,
         modes: mem::replace(&mut parts.modes, Sequence::new(alloc)),
-        rows: mem::replace(&mut parts.rows, SizeRows::from_vec(Vec::new(alloc))),
+        rows: mem::replace(&mut parts.rows, SizeRows::new(alloc)),
         row_proofs: mem::replace(&mut parts.row_proofs, Sequence::new(alloc)),
         grounds: mem::replace(&mut parts.grounds, Sequence::new(alloc)),
         levels,

@@ -20,7 +20,7 @@ ghost use Rattle.termination_model.specs.sizes.Sizes.{AreSizes, rows_of};
 use crate::notes::{Described, push_all_noted};
 use crate::printed::Printed;
 use call_components::Components;
-use cert_assembly::{Bounded, Measured, note_chain, put_sizes};
+use cert_assembly::{Bounded, Measured, move_sizes, note_chain};
 use cert_structure::Parts;
 use cti_terms::{Names, Program};
 use lex_certificate::{LexCertificate, LexFact, LexParts, facts_of, flat_levels};
@@ -130,11 +130,12 @@ fn with_levels(
     }
 }
 
-/// The parts with one mapping for each list, of the size rows, the lists and the stuck sets.
+/// The parts with one mapping for each list, of the size rows, the lists and the stuck sets. The size rows are moved into
+/// them.
 fn flat_of(
     alloc: Global,
     measured: &Measured,
-    sizes: &Sizes,
+    sizes: &mut Sizes,
     lists: &[Sequence<Sequence<LevelPart>>],
     stuck: Sequence<Option<Refutation>>,
 ) -> Result<Parts, AllocError>
@@ -143,10 +144,10 @@ fn flat_of(
         (map (map union_part) lists.now) }
     ensures { IfOk result (IsFlatOf
         (any_truth measured.now.norm) measured.now.p.now measured.now.comps.now
-        sizes.now lists.now stuck) }
+        sizes.old lists.now stuck) }
 {
     let mut parts = with_levels(alloc, flat_levels(alloc, lists)?, stuck);
-    put_sizes(alloc, sizes, &mut parts)?;
+    move_sizes(alloc, sizes, &mut parts);
     measured.put_sets(alloc, &mut parts)?;
     Ok(parts)
 }
@@ -172,19 +173,20 @@ fn with_lists(
     }
 }
 
-/// The parts of a certificate, of what the model of sizes and the search for lists give.
+/// The parts of a certificate, of what the model of sizes and the search for lists give. The size rows are
+/// moved into them.
 fn parts_of(
     alloc: Global,
     measured: &Measured,
-    sizes: &Sizes,
+    sizes: &mut Sizes,
     found: &[FoundLists],
 ) -> Result<LexParts, AllocError>
     requires components { AreComponents measured.now.p.now measured.now.comps.now }
     requires found { AreFound (any_row measured.now.norm) measured.now.p.now measured.now.comps.now
-        sizes.now.rows found.now }
+        sizes.old.rows found.now }
     ensures { IfOk result (ArePartsOf
         (any_truth measured.now.norm) measured.now.p.now measured.now.comps.now
-        sizes.now found.now) }
+        sizes.old found.now) }
 {
     let _program = measured.p.preds();
     let printed = Printed {
@@ -247,9 +249,9 @@ fn assembled_over(
 {
     let (p, comps) = (measured.p, measured.comps);
     let _program = p.preds();
-    let (steps, sizes) = chain.into_parts();
+    let (steps, mut sizes) = chain.into_parts();
     let found = find_all(alloc, measured, &sizes)?;
-    let parts = parts_of(alloc, measured, &sizes, found.as_slice())?;
+    let parts = parts_of(alloc, measured, &mut sizes, found.as_slice())?;
     are_bounded(&parts);
     let described = Described { p, names, comps };
     let notes = notes_of(alloc, &described, steps, found.as_slice())?;
