@@ -1,24 +1,10 @@
 //! How a call of the command ended.
 
+use crate::status::{MEMORY, NO, OUT_FAULT, OVERFLOW, REFUSED, STOPPED, USAGE};
 use crate::texts::Texts;
 use crate::told::Subject;
 use crate::trouble::Trouble;
 use word_faults::{WordFault, Words};
-
-/// The exit statuses that a message goes with, but for that of a file.
-const NO: u8 = 1;
-
-const USAGE: u8 = 2;
-
-const REFUSED: u8 = 3;
-
-const OUT_FAULT: u8 = 5;
-
-const MEMORY: u8 = 6;
-
-const STOPPED: u8 = 7;
-
-const OVERFLOW: u8 = 8;
 
 /// How a call of the command ended.
 #[derive(Clone, Copy)]

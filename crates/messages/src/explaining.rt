@@ -2,15 +2,13 @@
 
 use crate::ending::Ending;
 use crate::file_cause::FileCause;
+use crate::status::FILE_FAULT;
 use crate::telling::message;
 use crate::trouble::Trouble;
 use std::alloc::{AllocError, Global};
 use std::fs;
 use std::rt::Files;
 use word_faults::Words;
-
-/// The exit status where a file could not be loaded.
-const FILE_FAULT: u8 = 4;
 
 /// Whether there is a file of this name.
 fn is_file<R: Files>(rt: &R, name: &str) -> bool {

@@ -17,6 +17,7 @@ mod no_reason;
 mod place;
 mod refusal_kind;
 mod scan;
+pub mod status;
 mod telling;
 mod texts;
 mod told;

@@ -3,13 +3,9 @@
 use crate::expecting::expected_note;
 use crate::lists::is_of_lists;
 use crate::reading::notes_of;
+use messages::status::{DONE, NO};
 use messages::{Ending, ToldNo};
 use std::alloc::{AllocError, Global};
-
-/// The exit status of a call that answered, and of one whose certificate is not valid.
-const DONE: u8 = 0;
-
-const NO: u8 = 1;
 
 /// The reasons of a certificate that is not valid where another fact was expected.
 const MISSING: u64 = 2;

@@ -3,6 +3,7 @@
 use crate::library_names::{
     DELAYED, LOADING, OF_GOALS, OF_GRAMMARS, OF_STATE, OUTPUT, TESTS, UNKNOWN, WITH_CLAUSES,
 };
+use mistake_sentences::GoalMistake;
 
 /// What can stand for a predicate that has no clause.
 #[derive(Clone, Copy)]
@@ -92,11 +93,9 @@ impl Library {
             Library::NoClauses => {
                 "no clauses of pure Prolog do what it does: `cti-file` reads files that use it"
             }
-            Library::Test => "leave it out: modes without it hold with it",
-            Library::Unknown => {
-                "leave it out: modes without it hold with it, and what it binds stays unknown"
-            }
-            Library::Output => "leave it out: what is written does not change whether a query ends",
+            Library::Test => GoalMistake::Test.sentence(),
+            Library::Unknown => GoalMistake::Unknown.sentence(),
+            Library::Output => GoalMistake::Output.sentence(),
             Library::State => {
                 "write what it keeps as clauses: none are added, removed or declared while a query runs"
             }

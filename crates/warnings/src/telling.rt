@@ -7,6 +7,7 @@ use crate::parts::{indicator_of, text_of};
 use crate::sentence::WarningSentence;
 use crate::warning::Warning;
 use cti_terms::{Name, Names, Pred};
+use messages::status::{DONE, NO, STOPPED};
 use messages::{Ending, Place, push_excerpt, push_help, push_shown};
 use mistakes::is_certificate;
 use prolog_reader::{ReadText, read_query, read_text};
@@ -22,13 +23,6 @@ const MOST_NAMES: u32 = 4_000_000_000;
 /// What to do about a certificate that is read as a program.
 const CERTIFICATE_ADVICE: &str =
     "a certificate is checked by `cti check FILE CERT`, where FILE has its program";
-
-/// The exit statuses of a call that answered.
-const DONE: u8 = 0;
-
-const NO: u8 = 1;
-
-const STOPPED: u8 = 7;
 
 /// The text of a name, as far as it is text.
 fn str_of(names: &Names, name: Name) -> &str {
