@@ -47,7 +47,7 @@ impl Listed {
     }
 
     /// All arguments of a predicate, as a set.
-    pub fn arguments_of(&self, pred: u32) -> u32 {
+    pub fn all_arguments(&self, pred: u32) -> u32 {
         match self.table.preds.get(pred as usize) {
             Some(pred) => 1u32.checked_shl(pred.arity).unwrap_or(0).saturating_sub(1),
             None => 0,

@@ -34,7 +34,7 @@ const REASONS: [NoReason; 11] = [
 ];
 
 impl NoReason {
-    /// The reason of a number, which count from 1.
+    /// The reason of a number, which counts from 1.
     pub fn of(number: u64) -> Option<NoReason> {
         match number {
             1..=11 => Some(REASONS[number as usize - 1]),
@@ -69,10 +69,10 @@ impl NoReason {
             NoReason::Missing =>
                 "the facts end too early, or the certificate is of another program",
             NoReason::Extra => {
-                "the facts have to stand in their order, or the certificate is of another program"
+                "the facts do not stand in their order, or the certificate is of another program"
             }
             NoReason::Shape => {
-                "compare it with the predicate and the clause that it names, or the certificate is of another program"
+                "compare it with the predicate and the clause that it names; the certificate may be of another program"
             }
             NoReason::SizeRow =>
                 "find other multipliers, or leave out the size row and its by lines",

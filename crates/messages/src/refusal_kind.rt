@@ -48,7 +48,7 @@ const KINDS: [RefusalKind; 16] = [
 const BAD_EDIT: u64 = 18;
 
 impl RefusalKind {
-    /// The kind of a number, which count from 1.
+    /// The kind of a number, which counts from 1.
     pub fn of(number: u64) -> Option<RefusalKind> {
         match number {
             1..=16 => Some(KINDS[number as usize - 1]),

@@ -21,7 +21,7 @@ impl ByteMistake {
     /// Its sentence, with a `{}` for each thing that `shown` gives.
     pub fn sentence(self) -> &'static str {
         match self {
-            Self::ByteOrderMark => "save the file without the byte order mark at its beginning",
+            Self::ByteOrderMark => "leave out this byte order mark: save the file without it",
             Self::BackQuote => "write double quotes for back quotes: \"a\"",
             Self::NotText => "save the file as UTF-8",
             Self::Binary =>

@@ -16,8 +16,8 @@ fn ends_operand(text: &[u8]) -> bool {
     }
 }
 
-/// Whether a text goes on an expression after a `%`: a number or a variable first, no name, and a dot or comma at the
-/// end.
+/// Whether a text that begins with `%` goes on with an expression: a number or a variable first, no small letter, and a
+/// dot or comma at the end.
 fn is_rest(text: &[u8]) -> bool {
     match text.get(1..).unwrap_or(&[]).trim_ascii() {
         [first, middle @ .., b'.' | b','] => {

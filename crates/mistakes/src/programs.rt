@@ -57,7 +57,7 @@ impl<'a> HeadLook<'a> {
             return true;
         }
         self.is_read = word.follows_head();
-        word.closes()
+        false
     }
 }
 
@@ -92,7 +92,12 @@ fn first_pred(text: &[u8]) -> Option<(&str, u64)> {
 fn certified_pred(certificate: &[u8]) -> Option<&str> {
     for line in certificate.split(|byte| *byte == b'\n').take(3) {
         if let Some(rest) = line.strip_prefix(b"terminates(".as_slice()) {
-            return shown_name(before_byte(rest, b',')?);
+            // A name in quotes may have commas.
+            return if rest.starts_with(b"'") {
+                None
+            } else {
+                shown_name(before_byte(rest, b',')?)
+            };
         }
     }
     None

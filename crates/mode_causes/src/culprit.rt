@@ -2,8 +2,7 @@
 //!
 //! A refutation names pairs of a clause's head and a call, with values of the clause's variables that the rows before
 //! the call allow. Where no argument of the call is smaller there than that of the head, no measure falls at this call.
-//! A call in a branch of a disjunction is looked at from the head of the clause that has the disjunction, where the
-//! values agree.
+//! A call in a disjunction's branch is looked at from the clause that has the disjunction, where the values agree.
 
 use crate::finding_causes::View;
 use crate::sizing::{Point, Sizing};

@@ -4,7 +4,7 @@ use crate::cause::{Cause, Causes, Limit};
 use crate::culprit::Culprit;
 use crate::lacking::{CallAt, Found};
 use crate::sizing::Sizing;
-use certificate::Fact;
+use certificate::{CertNorm, Fact};
 use listed_programs::{ClauseRow, IntegerGoal, Listed, number_of};
 use sequences::Sequence;
 use std::alloc::{AllocError, Global};
@@ -158,7 +158,8 @@ impl<'p, 'f> View<'p, '_, 'f> {
         if self.causes.is_of_lists {
             return Why::NoList { start, points };
         }
-        if self.are_stuck(start, points) {
+        // `cti lex` is by term size, so points by another norm say nothing of it.
+        if matches!(self.causes.norm, CertNorm::Term) && self.are_stuck(start, points) {
             return Why::Stuck { start, points };
         }
         Why::Calls { start, points }

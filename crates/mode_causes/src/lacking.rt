@@ -2,7 +2,7 @@
 
 use crate::finding_causes::View;
 use crate::rigid_sets::{AtomSets, RigidSets};
-use crate::truths::arguments_of;
+use crate::truths::named_arguments;
 use crate::walk::Walk;
 use listed_programs::{ClauseRow, number_of};
 use std::alloc::{AllocError, Global};
@@ -113,7 +113,7 @@ impl View<'_, '_, '_> {
     fn are_enough(self, callee: u32, arguments: u32) -> bool {
         self.modes_of(callee)
             .iter()
-            .any(|mode| arguments_of(mode.as_slice()) & !arguments == 0)
+            .any(|mode| named_arguments(mode.as_slice()) & !arguments == 0)
     }
 
     /// Notes what a call of a clause lacks, the atom of this number after the head.
@@ -130,7 +130,7 @@ impl View<'_, '_, '_> {
         let count = table.calls_of(gone.row).len();
         let at = self.listed.places.call(gone.clause, call, count);
         if table.component_of(atom.pred) == table.component_of(gone.row.head) {
-            let is_weaker = walk.is_sure && arguments != self.listed.arguments_of(atom.pred);
+            let is_weaker = walk.is_sure && arguments != self.listed.all_arguments(atom.pred);
             if let (Some(at), true) = (gone.after.or(at), is_weaker) {
                 found.note_weaker(atom.pred, Weaker { arguments, at });
             }
@@ -178,7 +178,7 @@ impl View<'_, '_, '_> {
                 let gone = Gone {
                     clause: number_of(place),
                     row: *row,
-                    arguments: self.listed.arguments_of(row.head),
+                    arguments: self.listed.all_arguments(row.head),
                     after: None,
                 };
                 self.go_through(alloc, gone, found)?;

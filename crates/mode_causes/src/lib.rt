@@ -20,4 +20,4 @@ pub use cause::{Cause, Causes, Limit};
 pub use culprit::Culprit;
 pub use finding_causes::{Case, View, Why};
 pub use lacking::CallAt;
-pub use truths::{arguments_of, only};
+pub use truths::{argument_set, named_arguments};

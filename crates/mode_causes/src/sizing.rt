@@ -19,7 +19,7 @@ pub struct Point<'f> {
 }
 
 /// The set of one variable. Those of a clause are below 64.
-fn only(variable: u32) -> u64 {
+fn variable_set(variable: u32) -> u64 {
     1u64.checked_shl(variable).unwrap_or(0)
 }
 
@@ -36,7 +36,7 @@ impl Sizing<'_> {
     /// Adds the variables that have to be rigid for a term to be. A text nests at most 1,000 terms.
     pub fn add_rigid(self, term: &Term, variables: &mut u64) {
         match term {
-            Term::Var(variable) => *variables |= only(*variable),
+            Term::Var(variable) => *variables |= variable_set(*variable),
             Term::Int(_) => {}
             Term::Fun(name, args) => {
                 let skipped = self.skipped(*name, args.len());

@@ -3,7 +3,7 @@
 use certificate::{CertCell, Fact};
 
 /// The set of one argument, counted from 0. A predicate has at most 12.
-pub fn only(argument: usize) -> u32 {
+pub fn argument_set(argument: usize) -> u32 {
     match u32::try_from(argument) {
         Ok(argument) => 1u32.checked_shl(argument).unwrap_or(0),
         Err(_) => 0,
@@ -15,7 +15,7 @@ pub fn known_arguments(sets: &[u64], variables: u64) -> u32 {
     let mut known = 0u32;
     for (argument, set) in sets.iter().enumerate() {
         if *set & !variables == 0 {
-            known |= only(argument);
+            known |= argument_set(argument);
         }
     }
     known
@@ -25,7 +25,7 @@ pub fn known_arguments(sets: &[u64], variables: u64) -> u32 {
 pub fn variables_of(sets: &[u64], arguments: u32) -> u64 {
     let mut variables = 0u64;
     for (argument, set) in sets.iter().enumerate() {
-        if arguments & only(argument) != 0 {
+        if arguments & argument_set(argument) != 0 {
             variables |= *set;
         }
     }
@@ -33,10 +33,10 @@ pub fn variables_of(sets: &[u64], arguments: u32) -> u64 {
 }
 
 /// The arguments that a mode, which counts them from 1, names.
-pub fn arguments_of(mode: &[u32]) -> u32 {
+pub fn named_arguments(mode: &[u32]) -> u32 {
     let mut arguments = 0u32;
     for number in mode {
-        arguments |= only(number.saturating_sub(1) as usize);
+        arguments |= argument_set(number.saturating_sub(1) as usize);
     }
     arguments
 }
@@ -46,7 +46,7 @@ fn with_cell(cube: &[CertCell], wanted: CertCell) -> u32 {
     let mut arguments = 0u32;
     for (argument, cell) in cube.iter().enumerate() {
         if *cell == wanted {
-            arguments |= only(argument);
+            arguments |= argument_set(argument);
         }
     }
     arguments

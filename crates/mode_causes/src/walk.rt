@@ -11,6 +11,8 @@ const MOST_ROUNDS: u32 = 64;
 pub struct Walk<'s, 'p, 'c, 'f> {
     view: View<'p, 'c, 'f>,
     sets: &'s RigidSets,
+    /// The arguments of the head that are known before the first call.
+    arguments: u32,
     /// The variables that are known.
     pub known: u64,
     /// Whether the calls before may succeed with no other variable known.
@@ -22,6 +24,7 @@ impl Drop for Walk<'_, '_, '_, '_> {
         let Walk {
             view: _,
             sets: _,
+            arguments: _,
             known: _,
             is_sure: _,
         } = self;
@@ -35,14 +38,21 @@ impl<'s, 'p, 'c, 'f> Walk<'s, 'p, 'c, 'f> {
         sets: &'s RigidSets,
         arguments: u32,
     ) -> Walk<'s, 'p, 'c, 'f> {
-        let head = sets.of_head();
-        let known = variables_of(head, arguments);
-        Walk {
+        let known = variables_of(sets.of_head(), arguments);
+        let mut walk = Walk {
             view,
             sets,
+            arguments,
             known,
-            is_sure: known_arguments(head, known) == arguments,
-        }
+            is_sure: false,
+        };
+        walk.is_sure = walk.has_head();
+        walk
+    }
+
+    /// Whether no more arguments of the head are known than before the first call: of others nothing is asked here.
+    fn has_head(&self) -> bool {
+        known_arguments(self.sets.of_head(), self.known) == self.arguments
     }
 
     /// The arguments of an atom that are known.
@@ -95,7 +105,7 @@ impl<'s, 'p, 'c, 'f> Walk<'s, 'p, 'c, 'f> {
             self.is_sure = self.is_sure && self.may_succeed(atom);
         } else {
             self.learn_again(atoms);
-            self.is_sure = self.may_all_succeed(atoms);
+            self.is_sure = self.has_head() && self.may_all_succeed(atoms);
         }
     }
 }

@@ -3,7 +3,7 @@
 use crate::showing::Source;
 use cti_terms::{Atom, Term};
 use listed_programs::number_of;
-use mode_causes::{CallAt, View, arguments_of, only};
+use mode_causes::{CallAt, View, argument_set, named_arguments};
 use std::alloc::{AllocError, Global};
 use token_search::variable_at;
 
@@ -114,7 +114,7 @@ impl Lacked {
 fn asked_of(view: View<'_, '_, '_>, pred: u32) -> u32 {
     let mut asked = 0u32;
     for mode in view.modes_of(pred) {
-        asked |= arguments_of(mode.as_slice());
+        asked |= named_arguments(mode.as_slice());
     }
     asked
 }
@@ -123,7 +123,7 @@ fn asked_of(view: View<'_, '_, '_>, pred: u32) -> u32 {
 fn unknown_in(view: View<'_, '_, '_>, atom: &Atom, arguments: u32, known: u64) -> u64 {
     let mut variables = 0u64;
     for (argument, arg) in atom.args.as_slice().iter().enumerate() {
-        if arguments & only(argument) != 0 {
+        if arguments & argument_set(argument) != 0 {
             view.sizing().add_rigid(arg, &mut variables);
         }
     }

@@ -1,19 +1,26 @@
 //! Looking for a short text in a long one.
 
+use crate::gap::is_symbol;
+
 /// The longest text that is looked for, in bytes.
 const MOST_SOUGHT: usize = 32;
 
-/// Whether a part stands in a text. A part that is too long is never found.
-pub fn has_part(text: &[u8], part: &[u8]) -> bool {
+/// What stands after the first place of a part in a text. A part that is too long is never found.
+fn after_part<'a>(text: &'a [u8], part: &[u8]) -> Option<&'a [u8]> {
     if part.len() > MOST_SOUGHT {
-        return false;
+        return None;
     }
     for at in 0..text.len() {
-        if text.get(at..).unwrap_or(&[]).starts_with(part) {
-            return true;
+        if let Some(rest) = text.get(at..).unwrap_or(&[]).strip_prefix(part) {
+            return Some(rest);
         }
     }
-    false
+    None
+}
+
+/// Whether a part stands in a text. A part that is too long is never found.
+pub fn has_part(text: &[u8], part: &[u8]) -> bool {
+    after_part(text, part).is_some()
 }
 
 /// What stands beside a name in a table.
@@ -48,11 +55,19 @@ pub fn after_last(text: &[u8], separator: u8) -> &[u8] {
     parts.next().unwrap_or(text)
 }
 
-/// Whether an operator of this name may be declared by a directive of a text: a part up to a `)` has `op(`, and the
-/// name after it.
-pub fn may_declare(text: &[u8], name: &[u8]) -> bool {
+/// Whether one of the runs of symbols in a text is this one.
+fn has_run(text: &[u8], symbols: &[u8]) -> bool {
+    let mut runs = text.split(|byte| !is_symbol(*byte));
+    runs.any(|run| run == symbols)
+}
+
+/// Whether an operator of these symbols may be declared by a directive of a text: a part up to a `)` has `op(`, and
+/// these symbols after it.
+pub fn may_declare(text: &[u8], symbols: &[u8]) -> bool {
     for part in text.split(|byte| *byte == b')') {
-        if has_part(part, b"op(") && has_part(part, name) {
+        if let Some(rest) = after_part(part, b"op(")
+            && has_run(rest, symbols)
+        {
             return true;
         }
     }
