@@ -132,7 +132,7 @@ pub fn note_chain(
     ensures { OnOk result (out.new ≡ out.old ++ chain_notes p.now names.now
         (map plain_step steps)) }
 {
-    // For the prover alone: so many steps there are, and their numbers are no more.
+    // For the prover alone: there are this many steps, so that their numbers fit.
     let _count = steps.len();
     let mut number = 0;
     for step in steps.into_vec() {
@@ -170,7 +170,7 @@ pub fn print_chain(
     ensures { OnOk result (out.new.items ≡ out.old.items ++ text_of
         (chain_notes p.now names.now (map plain_step steps))) }
 {
-    // For the prover alone: so many steps there are, and their numbers are no more.
+    // For the prover alone: there are this many steps, so that their numbers fit.
     let _count = steps.len();
     let mut number = 0;
     for step in steps.into_vec() {

@@ -1,7 +1,7 @@
 //! The check of a certificate: a Yes means that it is valid, and that the queries that meet its modes end.
 //!
-//! A certificate proves that size rows are kept and that level mappings fall by multipliers of rows, and that no
-//! mapping falls by points. Each test here finds the first fact that does not hold, with its line and the reason, and
+//! A certificate proves by multipliers of rows that size rows are kept and that level mappings fall, and by points that
+//! no mapping falls. Each test here finds the first fact that does not hold, with its line and the reason, and
 //! none exactly where all hold. What it means that they hold is defined in `specs/`, over plain lists of whole numbers,
 //! and the laws of `laws` lead from there to claims that show queries to end. `check` asks all tests, those of the
 //! structure and of the modes among them: `IsValid` of `specs/Valid.antt` says what makes a certificate valid, and

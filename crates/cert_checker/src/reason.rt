@@ -3,7 +3,7 @@
 /// What is wrong with a fact of a certificate. The reasons are numbered from 1.
 #[derive(Clone, Copy, PartialEq, Eq, Debug)]
 pub enum Reason {
-    /// The version is another one.
+    /// The version is neither 1 nor 2.
     Version,
     /// The facts end where another must come.
     Missing,

@@ -1,4 +1,4 @@
--- Private.
+-- To believe, for the command.
 -- Why the modes of a predicate fail: for the first of three reasons.
 --
 -- To believe: all of this file. Predicates, mappings and clauses are numbered from 0 here.

@@ -29,8 +29,8 @@ fn words(rt: &HostRuntime, alloc: Global) -> Result<(Vec<String>, bool), AllocEr
     }
 }
 
-/// Writes the message about a call, the warnings about its texts and the notes about the modes that it wrote on
-/// standard error. Where this fails, nobody reads it.
+/// Writes on standard error the message about a call, the warnings about its texts, and the notes about the modes that
+/// it wrote. Where this fails, nobody reads it.
 fn tell<'a, F: Files + Drop, W: Write + Drop>(
     rt: &HostRuntime,
     status: Status,

@@ -81,8 +81,8 @@ fn solve_all<N: Norm>(
 
 /// Puts into the places of a component's members their sets: the least ones above those of the predicates that they call.
 ///
-/// What the places of members hold before counts nothing, nor which marks there are. The sets of other predicates stay as
-/// they are, diagram for diagram. Out of memory, the table keeps its earlier diagrams.
+/// What the places of members hold before does not matter, nor do the marks there are. The sets of other predicates stay
+/// as they are, diagram for diagram. Out of memory, the table keeps its earlier diagrams.
 pub fn solve_component<N: Norm>(
     setting: &Setting<N>,
     c: u32,

@@ -7,9 +7,9 @@
 //! the rests of goals, and unifies no pair of variables over and over. The value of an expression is found without
 //! recursion, and a run ends where a value does not fit.
 //!
-//! Depends on `cti_terms`; on `exact128`, which calculates the values of expressions; on `bumpalo`, which keeps them as
-//! terms while a run goes on; and on `indexmap`, which numbers the variables of an answer in the order of first
-//! occurrence and finds the pairs of variables that were unified.
+//! Depends on `cti_terms`; on `unifier`, which binds variables; on `exact128`, which calculates the values of
+//! expressions; on `bumpalo`, which keeps them as terms while a run goes on; and on `indexmap`, which numbers the
+//! variables of an answer in the order of first occurrence.
 #![tactic(auto)]
 
 mod answer;

@@ -270,7 +270,8 @@ pub fn run(alloc: Global, program: &Program, goal: &Goal, budget: u64) -> Result
     ensures longest { IfOk result
         (λ ran. ran.longest ≡ longest (visited_nodes program.now goal.now budget)) }
 
-    // Stopped comes exactly where there are more nodes than the budget, and Finished exactly where there are not.
+    // Where no value is too large, Stopped comes exactly where there are more nodes than the budget, and Finished exactly
+    // where there are not.
     ensures stopped { IfOk result (λ ran. (ran.ending ≡ Ending.Stopped)
         ↔ ((¬ HasWide program.now goal.now budget)
         × HasMoreNodes program.now goal.now budget)) }

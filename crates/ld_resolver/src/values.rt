@@ -77,8 +77,8 @@ fn calculate(
     Ok(Some(last(values)))
 }
 
-/// Lists the operators of a term under the bindings, root first. Whether it has a value. Out of memory at more than
-/// `MOST_OPERATORS` of them.
+/// Lists the operators of a term under the bindings, root first, and says whether it has a value. Out of memory at more
+/// than `MOST_OPERATORS` of them.
 fn list_operators<'p>(
     bindings: &Bindings<'p>,
     names: Option<Arith>,

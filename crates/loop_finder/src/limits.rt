@@ -9,8 +9,7 @@ pub const MOST_DERIVATIONS: u64 = 100_000;
 /// of memory.
 pub const MOST_WORK: u64 = 100_000_000;
 
-/// The most heads that one search unifies, each as often as it does, which takes half a minute. A search that needs more
-/// is out of memory.
+/// How often one search unifies heads at most, which takes half a minute. A search that needs more is out of memory.
 pub const MOST_TRIES: u64 = 1_000_000_000;
 
 /// The most nodes of a goal's terms. A goal with more is out of memory.

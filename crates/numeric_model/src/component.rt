@@ -21,7 +21,7 @@ use termination_model::{SizeRows, Sizes};
 /// Finds size rows of a component's predicates by the steps of a legal chain above the rows of the predicates that it
 /// calls, and proves them.
 ///
-/// What `below` has for other components than earlier ones counts nothing.
+/// What `below` has for other components than earlier ones does not matter.
 pub fn solve_component<D: Domain, N: Norm>(
     alloc: Global,
     p: &Program,

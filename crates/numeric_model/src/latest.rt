@@ -24,14 +24,14 @@ impl Drop for Latest {
 }
 
 impl Latest {
-    /// There were no steps.
+    /// Before a first step.
     pub(crate) fn new(alloc: Global, p: &Program) -> Result<Latest, AllocError> {
         let places = vec![in alloc; None; p.clauses() as usize]?;
         let changes = vec![in alloc; 0; p.preds() as usize]?;
         Ok(Latest { places, changes })
     }
 
-    /// The last one of `steps` steps was on clause `k`, which is one of `pred`, and perhaps changed rows.
+    /// Notes that the last one of `steps` steps was on clause `k`, which is one of `pred`, and whether it changed rows.
     pub(crate) fn note(&mut self, k: u32, pred: PredId, steps: usize, changed: bool)
         requires clause { 1 ≤ k }
         requires some { 1 ≤ steps }
@@ -60,7 +60,7 @@ impl Latest {
         }
     }
 
-    /// The rows of these predicates did not change.
+    /// Forgets the changes of these predicates' rows, when the steps are taken away.
     pub(crate) fn forget(&mut self, preds: &[PredId]) {
         for pred in preds {
             put(&mut self.changes, pred.0 as usize, 0);

@@ -28,7 +28,7 @@ fn count<D: Domain>(value: &D) -> usize
     value.rows().list.len()
 }
 
-/// A weak step keeps these of the old rows.
+/// A weak step: of the old rows these are kept.
 fn kept_weakly<D: Domain>(
     system: &System,
     old: &D,
