@@ -46,7 +46,11 @@ def definitions(text):
     for line in text.split("\n"):
         said = line.lstrip()
         indent = len(line) - len(said)
-        if not said or said.startswith(("use ", "pub use ", "pub mod ", "module ", "mutual", "abbrev mutual")):
+        if not said or said.startswith(("use ", "pub use ", "unfoldable pub use ", "pub mod ")):
+            continue
+        if said.startswith(("module ", "mutual", "abbrev mutual")):
+            # What stands in it is not part of a record before it.
+            name, inside = None, None
             continue
         if said.startswith("--"):
             comment.append(line)
@@ -64,7 +68,7 @@ def definitions(text):
     return found
 
 
-USE = re.compile(r"^(?:pub )?use Rattle\.(\w+)\.specs\.([\w.]+)\.\{([^}]*)\}", re.M)
+USE = re.compile(r"^(?:(?:unfoldable )?pub )?use Rattle\.(\w+)\.specs\.([\w.]+)\.\{([^}]*)\}", re.M)
 PASSED_ON = re.compile(r"^pub use Rattle\.(\w+)\.specs\.(?:\w+\.)*(\w+)$", re.M)
 
 
