@@ -98,7 +98,7 @@ item((:- Directive), Line, _, State0, State, Items, Items) :-
     conditional(Directive, Line, State0, State),
     !.
 item(_, _, _, State, State, Items, Items) :-
-    memberchk(no, State.conditions),
+    is_skipped(State.conditions),
     !.
 item('$unread', Line, _, State, State, [doubt(Line, unread)|Items], Items) :- !.
 item((:- Directive), Line, In, State0, State, Items, Rest) :-
@@ -211,7 +211,7 @@ conditional(if(Condition), _, State0, State) :-
     State = State0.put(conditions, [Value|State0.conditions]).
 conditional(elif(Condition), _, State0, State) :-
     State0.conditions = [Value0|Values],
-    (   Value0 == no, \+ memberchk(no, Values)
+    (   Value0 == no, \+ is_skipped(Values)
     ->  decided(Condition, Value)
     ;   after_branch(Value0, Value)
     ),
@@ -228,8 +228,15 @@ conditional(endif, _, State0, State) :-
     State = State0.put(conditions, Values).
 
 after_branch(maybe, maybe).
-after_branch(yes, no).
+after_branch(yes, done).
 after_branch(no, no).
+after_branch(done, done).
+
+is_skipped(Values) :-
+    (   memberchk(no, Values)
+    ->  true
+    ;   memberchk(done, Values)
+    ).
 
 decided(Condition, Value) :-
     (   value(Condition, Known)

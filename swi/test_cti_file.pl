@@ -219,6 +219,9 @@ test(decided_condition) :-
     is_open(":- if(fail).\np(a).\n:- elif(current_prolog_flag(bounded, false)).\np(X) :- p(X).\n:- else.\np(b).\n:- endif.\n", p/1).
 test(skipped_condition, Sets == [[]]) :-
     said(":- if(fail).\np(X) :- p(X).\n:- if(true).\np(X) :- p(X).\n:- endif.\n:- else.\np(b).\n:- endif.\n", p/1, Sets, []).
+test(condition_after_one_that_held) :-
+    is_open(":- if(true).\n:- elif(true).\nappend(_, _, _).\n:- elif(true).\nappend(_, _, _).\n:- else.\nappend(_, _, _).\n:- endif.\n\
+p(X) :- append(_, X, _).\n", p/1).
 test(operators) :-
     is_open(":- op(700, xfx, ===>).\nX ===> Y :- X ===> Y.\np(X) :- X ===> X.\n", p/1).
 test(operators_of_a_library) :-
