@@ -51,7 +51,7 @@ read_source(File, Source) :-
 
 read_path(Path, Scratch, Items) :-
     State0 = state{path:Path, module:user, file_module:user, scratch:Scratch,
-                  double_quotes:string, back_quotes:codes, conditions:[], chr:no, included:no},
+                  double_quotes:string, back_quotes:codes, conditions:[], flags:[], chr:no, included:no},
     read_text(Path, State0, _, Items, []).
 
 read_text(Path, State0, State, Items, Rest) :-
@@ -70,7 +70,30 @@ read_items(In, State0, State, Items, Rest) :-
     (   Term == end_of_file
     ->  State = State0, Items = Rest
     ;   item(Term, Line, In, State0, State1, Items, More),
-        read_items(In, State1, State, More, Rest)
+        flags_set(Term, State1, State2),
+        read_items(In, State2, State, More, Rest)
+    ).
+
+%   Flags that the file sets: conditions that ask for them are not decided.
+
+flags_set(Term, State0, State) :-
+    findall(Flag, ( sub_term(Goal, Term), sets_flag(Goal, Flag) ), Flags),
+    (   Flags == []
+    ->  State = State0
+    ;   append(Flags, State0.flags, All),
+        sort(All, Sorted),
+        State = State0.put(flags, Sorted)
+    ).
+
+sets_flag(Goal, Flag) :-
+    compound(Goal),
+    (   Goal = set_prolog_flag(Flag0, _)
+    ;   Goal = create_prolog_flag(Flag0, _, _)
+    ),
+    strip_module(Flag0, _, Flag1),
+    (   atom(Flag1)
+    ->  Flag = Flag1
+    ;   Flag = any
     ).
 
 read_one(In, State, Term, Line) :-
@@ -207,12 +230,12 @@ plain_head(H, Module, Module, H) :-
 %   taken. `done` marks what follows a branch that was taken.
 
 conditional(if(Condition), _, State0, State) :-
-    decided(Condition, Value),
+    decided(Condition, State0, Value),
     State = State0.put(conditions, [Value|State0.conditions]).
 conditional(elif(Condition), _, State0, State) :-
     State0.conditions = [Value0|Values],
     (   Value0 == no, \+ is_skipped(Values)
-    ->  decided(Condition, Value)
+    ->  decided(Condition, State0, Value)
     ;   after_branch(Value0, Value)
     ),
     State = State0.put(conditions, [Value|Values]).
@@ -238,11 +261,22 @@ is_skipped(Values) :-
     ;   memberchk(done, Values)
     ).
 
-decided(Condition, Value) :-
-    (   value(Condition, Known)
+decided(Condition, State, Value) :-
+    (   \+ asks_for_one_of(Condition, State.flags),
+        value(Condition, Known)
     ->  Value = Known
     ;   Value = maybe
     ).
+
+asks_for_one_of(Condition, Flags) :-
+    sub_term(Goal, Condition),
+    nonvar(Goal),
+    Goal = current_prolog_flag(Flag, _),
+    (   memberchk(Flag, Flags)
+    ->  true
+    ;   memberchk(any, Flags)
+    ),
+    !.
 
 value(Condition, _) :-
     var(Condition),
@@ -268,6 +302,10 @@ value((A ; B), Value) :-
     ).
 value(current_prolog_flag(Flag, Wanted), Value) :-
     atom(Flag),
+    (   current_prolog_flag(Flag, _)
+    ->  true
+    ;   memberchk(Flag, [windows, unix, apple, xpce, threads, readline, wine_version, emscripten])
+    ),
     holds(current_prolog_flag(Flag, Wanted), Value).
 value(current_predicate(Name/Arity), yes) :-
     atom(Name),

@@ -380,6 +380,15 @@ test(multifile) :-
     is_assumed(":- multifile q/1.\nq(a).\np(X) :- q(X).\n", p/1, multifile).
 test(undecided_condition) :-
     is_assumed(":- if(my_condition).\nappend(_, _, _).\n:- endif.\np(X) :- append(_, X, _).\n", p/1, conditional).
+test(condition_on_a_flag_that_the_file_makes) :-
+    is_assumed(":- create_prolog_flag(mine, true, []).\n:- if(current_prolog_flag(mine, true)).\np(X) :- p(X).\n:- else.\np(a).\n:- endif.\n",
+               p/1, conditional).
+test(condition_on_a_flag_that_the_file_sets) :-
+    is_assumed(":- set_prolog_flag(double_quotes, codes).\n:- if(current_prolog_flag(double_quotes, codes)).\n\
+p(X) :- p(X).\n:- else.\np(a).\n:- endif.\n",
+               p/1, conditional).
+test(condition_on_a_flag_of_another_file) :-
+    is_assumed(":- if(current_prolog_flag(no_such_flag, _)).\np(X) :- p(X).\n:- else.\np(a).\n:- endif.\n", p/1, conditional).
 test(moded_table) :-
     is_assumed(":- table p(_, max).\np(a, 0).\np(X, M) :- p(X, N), M is N + 1.\n", p/2, tabled).
 test(abstract_table) :-
