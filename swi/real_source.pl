@@ -336,12 +336,37 @@ directive((A, B), Line, In, State0, State, Items, Rest) :-
     !,
     directive(A, Line, In, State0, State1, Items, More),
     directive(B, Line, In, State1, State, More, Rest).
+directive(M:Directive, Line, In, State0, State, Items, Rest) :-
+    atom(M),
+    nonvar(Directive),
+    !,
+    (   Directive = (A, B)
+    ->  directive((M:A, M:B), Line, In, State0, State, Items, Rest)
+    ;   Directive = _:_
+    ->  directive(Directive, Line, In, State0, State, Items, Rest)
+    ;   Items = [directive(Line, M, Directive), raw(Line, (:- M:Directive))|More],
+        (   obeyed_in(Directive, M, Line, In, State0, State, More, Rest)
+        ->  true
+        ;   State = State0, More = Rest
+        )
+    ).
 directive(Directive, Line, In, State0, State,
           [directive(Line, State0.module, Directive), raw(Line, (:- Directive))|Items], Rest) :-
     (   obeyed(Directive, Line, In, State0, State, Items, Rest)
     ->  true
     ;   State = State0, Items = Rest
     ).
+
+%   obeyed_in(+Directive, +M, ..): a directive for the module M. What it
+%   declares is of M. Flags are those of the text, as without M.
+
+obeyed_in(Directive, M, _, _, State, State, Items, Rest) :-
+    declaration(Directive, Kind, Specs),
+    !,
+    findall(Item, declared(Kind, Specs, M, Item), Declared),
+    append(Declared, Rest, Items).
+obeyed_in(Directive, _, Line, In, State0, State, Items, Rest) :-
+    obeyed(Directive, Line, In, State0, State, Items, Rest).
 
 obeyed(module(Module, Exports), _, _, State0, State, [module(Module, Exports)|Rest], Rest) :-
     atom(Module),
@@ -354,11 +379,13 @@ obeyed('$set_source_module'(Module), _, _, State0, State, Rest, Rest) :-
     State = State0.put(_{module:Module, file_module:Module}).
 obeyed('$set_source_module'(_, Module), Line, In, State0, State, Items, Rest) :-
     obeyed('$set_source_module'(Module), Line, In, State0, State, Items, Rest).
-obeyed(_:op(P, T, N), _, _, State, State, Rest, Rest) :-
-    declare_operators([op(P, T, N)], State.scratch).
 obeyed(op(P, T, N), _, _, State, State, Rest, Rest) :-
     declare_operators([op(P, T, N)], State.scratch).
-obeyed(set_prolog_flag(Flag, Value), Line, _, State0, State, Items, Rest) :-
+obeyed(set_prolog_flag(Flag0, Value), Line, _, State0, State, Items, Rest) :-
+    (   nonvar(Flag0), Flag0 = M:Flag
+    ->  M == State0.module
+    ;   Flag = Flag0
+    ),
     memberchk(Flag, [double_quotes, back_quotes]),
     atom(Value),
     State = State0.put(Flag, Value),

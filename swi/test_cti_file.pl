@@ -157,6 +157,19 @@ test(functor_may_be_nil) :-
     is_open("p(X) :- functor(X, F, _), q(F).\nq([]) :- q([]).\nq(a).\n", p/1).
 test(codes) :-
     is_open(":- set_prolog_flag(double_quotes, codes).\np(X) :- X = \"ab\", q(X).\nq([_|_]) :- q([a]).\nq(a).\n", p/1).
+test(codes_of_a_module) :-
+    is_open(":- set_prolog_flag(user:double_quotes, codes).\np(X) :- X = \"ab\", q(X).\nq([_|_]) :- q([a]).\nq(a).\n", p/1).
+test(codes_of_a_directive_with_a_module) :-
+    is_open(":- module(m, []).\n:- m:set_prolog_flag(double_quotes, codes).\np(X) :- X = \"ab\", q(X).\n\
+q([_|_]) :- q([a]).\nq(a).\n", p/1).
+test(codes_of_a_directive_with_another_module) :-
+    is_open(":- module(m, []).\n:- user:set_prolog_flag(double_quotes, codes).\np(X) :- X = \"ab\", q(X).\n\
+q([_|_]) :- q([a]).\nq(a).\n", p/1).
+test(codes_of_another_module, Sets == [[]]) :-
+    said(":- module(m, []).\n:- set_prolog_flag(user:double_quotes, codes).\np(X) :- X = \"ab\", q(X).\n\
+q([_|_]) :- q([a]).\nq(_).\n", p/1, Sets, []).
+test(declaration_with_a_module) :-
+    is_open(":- user:dynamic(q/1).\nq(a).\np(X) :- q(Y), r(Y), X = a.\nr([]) :- r([]).\nr(a).\n", p/1).
 test(back_quotes) :-
     is_open("p(X) :- X = `ab`, q(X).\nq([_|_]) :- q([a]).\nq(a).\n", p/1).
 test(body_of_a_clause_for_another_module) :-
@@ -389,6 +402,8 @@ p(X) :- p(X).\n:- else.\np(a).\n:- endif.\n",
                p/1, conditional).
 test(condition_on_a_flag_of_another_file) :-
     is_assumed(":- if(current_prolog_flag(no_such_flag, _)).\np(X) :- p(X).\n:- else.\np(a).\n:- endif.\n", p/1, conditional).
+test(import_with_a_module) :-
+    is_assumed(":- module(m, []).\n:- user:use_module(no_such_file).\np(X) :- append(X, [a], X).\n", p/1, external(none:append/3)).
 test(moded_table) :-
     is_assumed(":- table p(_, max).\np(a, 0).\np(X, M) :- p(X, N), M is N + 1.\n", p/2, tabled).
 test(abstract_table) :-
