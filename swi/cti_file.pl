@@ -530,6 +530,7 @@ assumption_text(conditional, "it depends on :- if: the clauses read here are tho
 assumption_text(tabled, "tabled with moded arguments or options: tabling does not call it more generally").
 assumption_text(adds, "clauses that the file adds to it, and that are not known, are facts").
 assumption_text(unread, "this clause could not be read: nothing depends on it").
+assumption_text(flags, "a flag for the reading of texts in quotes may change here: they are read as if it did not").
 assumption_text(chr, "rules of CHR are not read: they end").
 assumption_text(dialect(Dialect), Text) :-
     format(string(Text), "the file is for ~w: it is as for SWI-Prolog", [Dialect]).

@@ -134,16 +134,18 @@ item(Term, Line, _, State, State, [doubt(Line, chr)|Items], Items) :-
     State.chr == yes,
     chr_rule(Term),
     !.
-item(Term, Line, _, State, State, [raw(Line, Term)|Items], Rest) :-
-    (   catch(plain_clause(Term, State.module, Module, Head, Body), _, fail)
+item(Term, Line, _, State0, State, [raw(Line, Term)|Items], Rest) :-
+    (   catch(plain_clause(Term, State0.module, Module, Head, Body), _, fail)
     ->  functor(Head, Name, Arity),
         Predicate = Module:Name/Arity,
         Items = [clause(Predicate, Line, Head, Body)|More],
-        (   memberchk(maybe, State.conditions)
-        ->  More = [conditional(Predicate)|Rest]
-        ;   More = Rest
-        )
-    ;   Items = [doubt(Line, unread)|Rest]
+        (   memberchk(maybe, State0.conditions)
+        ->  More = [conditional(Predicate)|More1]
+        ;   More = More1
+        ),
+        found_within(clause(Body), Line, State0, State, More1, Rest)
+    ;   State = State0,
+        Items = [doubt(Line, unread)|Rest]
     ).
 
 chr_rule('==>'(_, _)).
@@ -347,12 +349,47 @@ directive(M:Directive, Line, In, State0, State, Items, Rest) :-
     ;   Items = [directive(Line, M, Directive), raw(Line, (:- M:Directive))|More],
         (   obeyed_in(Directive, M, Line, In, State0, State, More, Rest)
         ->  true
-        ;   State = State0, More = Rest
+        ;   found_within(Directive, Line, State0, State, More, Rest)
         )
     ).
 directive(Directive, Line, In, State0, State,
           [directive(Line, State0.module, Directive), raw(Line, (:- Directive))|Items], Rest) :-
     (   obeyed(Directive, Line, In, State0, State, Items, Rest)
+    ->  true
+    ;   found_within(Directive, Line, State0, State, Items, Rest)
+    ).
+
+%   found_within(+Term, +Line, +State0, -State, -Items, ?Rest): the goals in
+%   a directive or a clause that change how the text is read, or what it
+%   imports, if they run while the file is loaded. What a clause loads and
+%   does not name is assumed of that goal.
+
+found_within(Term, Line, State0, State, Items, Rest) :-
+    findall(Goal,
+            ( sub_term(Goal, Term),
+              changes_reading(Goal),
+              \+ ( Term = clause(_), loading(Goal, Spec, _), \+ ground(Spec) ) ),
+            Goals),
+    foldl(may_run(Line), Goals, State0-Items, State-Rest).
+
+changes_reading(Goal) :-
+    compound(Goal),
+    compound_name_arity(Goal, Name, Arity),
+    (   memberchk(Name/Arity, [op/3, set_prolog_flag/2])
+    ->  true
+    ;   Name \== '[|]',
+        loading(Goal, _, _)
+    ).
+
+may_run(Line, Goal, State0-Items, State-Rest) :-
+    (   Goal = set_prolog_flag(Flag0, _)
+    ->  strip_module(Flag0, _, Flag),
+        (   ( var(Flag) ; memberchk(Flag, [double_quotes, back_quotes]) )
+        ->  Items = [doubt(Line, flags)|Rest]
+        ;   Items = Rest
+        ),
+        State = State0
+    ;   obeyed(Goal, Line, none, State0, State, Items, Rest)
     ->  true
     ;   State = State0, Items = Rest
     ).

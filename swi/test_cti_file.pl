@@ -237,6 +237,8 @@ test(condition_after_one_that_held) :-
 p(X) :- append(_, X, _).\n", p/1).
 test(operators) :-
     is_open(":- op(700, xfx, ===>).\nX ===> Y :- X ===> Y.\np(X) :- X ===> X.\n", p/1).
+test(operators_within_a_directive) :-
+    is_open(":- catch(op(700, xfx, ===>), _, true).\nX ===> Y :- X ===> Y.\np(X) :- X ===> X.\n", p/1).
 test(operators_of_a_library) :-
     said(":- use_module(library(clpfd)).\np(X) :- X #> 3.\n", p/1, _, Doubts),
     memberchk(external(clpfd:(#>)/2), Doubts).
@@ -404,6 +406,16 @@ test(condition_on_a_flag_of_another_file) :-
     is_assumed(":- if(current_prolog_flag(no_such_flag, _)).\np(X) :- p(X).\n:- else.\np(a).\n:- endif.\n", p/1, conditional).
 test(import_with_a_module) :-
     is_assumed(":- module(m, []).\n:- user:use_module(no_such_file).\np(X) :- append(X, [a], X).\n", p/1, external(none:append/3)).
+test(import_within_a_directive) :-
+    is_assumed(":- catch(use_module(no_such_file), _, true).\np(X) :- append(X, [a], X).\n", p/1, external(none:append/3)).
+test(import_within_a_clause) :-
+    is_assumed("p(X) :- use_module(no_such_file), append(X, [a], X).\n", p/1, external(none:append/3)).
+test(flag_within_a_directive) :-
+    is_assumed(":- catch(set_prolog_flag(double_quotes, codes), _, true).\np(X) :- X = \"ab\", q(X).\n\
+q([_|_]) :- q([a]).\nq(a).\n", p/1, flags).
+test(flag_within_a_clause) :-
+    is_assumed("i :- set_prolog_flag(double_quotes, codes).\n:- i.\np(X) :- X = \"ab\", q(X).\n\
+q([_|_]) :- q([a]).\nq(a).\n", p/1, flags).
 test(moded_table) :-
     is_assumed(":- table p(_, max).\np(a, 0).\np(X, M) :- p(X, N), M is N + 1.\n", p/2, tabled).
 test(abstract_table) :-
