@@ -96,8 +96,16 @@ pure_clauses([clause(Line, Head, Body)|Real], Main, Source, Module:PI, [pure(Arg
     { Head =.. [_|Args0],
       maplist(pure_term, Args0, Args),
       Context = context{main:Main, source:Source, module:Module, line:Line, numbers:[]} },
-    goal(Body, Context, Pure),
+    body(Body, Context, Pure),
     pure_clauses(Real, Main, Source, Module:PI, Clauses).
+
+%   A fact has no body to rewrite.
+
+body(Body, Context, Pure) -->
+    (   { Body == true }
+    ->  { Pure = true }
+    ;   goal(Body, Context, Pure)
+    ).
 
 
 %   Predicates with known closures: the clauses with the closures in the
@@ -115,7 +123,7 @@ special_clauses([Real|Rest], Closures, Main, Source, Predicate, [pure(Args, Pure
       maplist(pure_term, Args2, Args),
       Predicate = Module:_,
       Context = context{main:Main, source:Source, module:Module, line:Line, numbers:[]} },
-    goal(Body, Context, Pure),
+    body(Body, Context, Pure),
     special_clauses(Rest, Closures, Main, Source, Predicate, Clauses).
 
 %   Closures are kept with '$VAR'(I) for their variables, in order.
@@ -183,44 +191,48 @@ goal(M:G, Context, P) -->
 goal(G, _, fail) -->
     { \+ callable(G) },
     !.
-goal(true, _, true) --> !.
-goal(!, _, true) --> !.
-goal((A, B), Context, P) -->
+goal(G, Context, P) -->
+    rewritten_goal(G, Context),
+    plain_goal(G, Context, P).
+
+plain_goal(true, _, true) --> !.
+plain_goal(!, _, true) --> !.
+plain_goal((A, B), Context, P) -->
     !,
     goal(A, Context, PA),
     { numbers_after(A, Context, Context1) },
     goal(B, Context1, PB),
     { both(PA, PB, P) }.
-goal((A ; B), Context, P) -->
+plain_goal((A ; B), Context, P) -->
     !,
     branch(A, Context, PA),
     goal(B, Context, PB),
     { either(PA, PB, P) }.
-goal('|'(A, B), Context, P) -->
+plain_goal('|'(A, B), Context, P) -->
     !,
-    goal((A ; B), Context, P).
-goal((A -> B), Context, P) -->
+    plain_goal((A ; B), Context, P).
+plain_goal((A -> B), Context, P) -->
     !,
-    goal((A, B), Context, P).
-goal((A *-> B), Context, P) -->
+    plain_goal((A, B), Context, P).
+plain_goal((A *-> B), Context, P) -->
     !,
-    goal((A, B), Context, P).
-goal(@(G, M), Context, P) -->
+    plain_goal((A, B), Context, P).
+plain_goal(@(G, M), Context, P) -->
     !,
     (   { M == Context.module }
     ->  []
     ;   note(Context, goal)              % its closures are of another module
     ),
     goal(G, Context, P).
-goal(G, Context, P) -->
-    rewritten_goal(G, Context),
+plain_goal(G, Context, P) -->
     { resolved(G, Context, Where) },
     goal_of(Where, G, Context, P).
 
 branch(A, Context, P) -->
     { nonvar(A), ( A = (C -> T) ; A = (C *-> T) ) },
     !,
-    goal((C, T), Context, P).
+    rewritten_goal(A, Context),
+    plain_goal((C, T), Context, P).
 branch(A, Context, P) -->
     goal(A, Context, P).
 

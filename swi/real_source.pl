@@ -195,7 +195,8 @@ clause_parts('==>'(H, B), Module0, Module, Head, Body) :-
 clause_parts((H :- B), Module0, Module, Head, Body) :-
     !,
     plain_head(H, Module0, Module, Head),
-    body_in(Module0, Module, B, Body).
+    rule_body(B, B1),
+    body_in(Module0, Module, B1, Body).
 clause_parts((H0 => B0), Module0, Module, Head, Body) :-
     !,
     (   nonvar(H0), H0 = (H, Guard)
@@ -203,9 +204,18 @@ clause_parts((H0 => B0), Module0, Module, Head, Body) :-
     ;   H = H0, B = B0
     ),
     plain_head(H, Module0, Module, Head),
-    body_in(Module0, Module, B, Body).
+    rule_body(B, B1),
+    body_in(Module0, Module, B1, Body).
 clause_parts(H, Module0, Module, Head, true) :-
     plain_head(H, Module0, Module, Head).
+
+%   A body `true` is one that the file may rewrite, which a fact is not.
+
+rule_body(B, Body) :-
+    (   B == true
+    ->  Body = (true, true)
+    ;   Body = B
+    ).
 
 %   The body of a clause of another module runs in the module of the text.
 
@@ -741,6 +751,7 @@ asserted_by(Body, Module, Line, Found) :-
             ->  functor(Head, N, A),
                 (   Found = dynamic(M:N/A)
                 ;   B \== true,
+                    B \== (true, true),
                     Found = asserts(M:N/A, Line, Head, B)
                 )
             ;   Found = unknown_assert(Line)

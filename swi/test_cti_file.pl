@@ -387,6 +387,16 @@ test(own_function) :-
     is_assumed(":- use_module(library(arithmetic)).\n:- arithmetic_function(f/1).\nf(X, Y) :- Y is f(X).\n", f/2, function).
 test(goal_expansion) :-
     is_assumed("goal_expansion(q(X), p(X)).\np(X) :- q(X).\nq(_).\n", p/1, rewritten).
+test(goal_expansion_of_true) :-
+    is_assumed("goal_expansion(true, loop).\nloop :- loop.\np(_) :- true.\n", p/1, rewritten).
+test(goal_expansion_of_a_cut) :-
+    is_assumed("goal_expansion(!, loop).\nloop :- loop.\np(_) :- !.\n", p/1, rewritten).
+test(goal_expansion_of_a_disjunction) :-
+    is_assumed("goal_expansion((_ ; _), loop).\nloop :- loop.\np(X) :- ( X = a ; X = b ).\n", p/1, rewritten).
+test(goal_expansion_of_a_condition) :-
+    is_assumed("goal_expansion((_ -> _), loop).\nloop :- loop.\np(X) :- ( X = a -> X = b ; X = c ).\n", p/1, rewritten).
+test(goal_expansion_is_not_of_facts, Doubts == []) :-
+    said("goal_expansion(X, X).\np(a).\n", p/1, [[]], Doubts).
 test(term_expansion) :-
     is_assumed("term_expansion(p(X), (p(X) :- p(X))).\np(_).\n", p/1, rewritten).
 test(directive_expansion) :-
