@@ -68,7 +68,11 @@ skip_interpreter(In) :-
 read_items(In, State0, State, Items, Rest) :-
     read_one(In, State0, Term, Line),
     (   Term == end_of_file
-    ->  State = State0, Items = Rest
+    ->  State = State0,
+        (   State0.included == no
+        ->  Items = [raw(Line, end_of_file)|Rest]    % which a file may rewrite
+        ;   Items = Rest
+        )
     ;   item(Term, Line, In, State0, State1, Items, More),
         flags_set(Term, State1, State2),
         read_items(In, State2, State, More, Rest)

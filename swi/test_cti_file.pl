@@ -399,6 +399,8 @@ test(goal_expansion_is_not_of_facts, Doubts == []) :-
     said("goal_expansion(X, X).\np(a).\n", p/1, [[]], Doubts).
 test(term_expansion) :-
     is_assumed("term_expansion(p(X), (p(X) :- p(X))).\np(_).\n", p/1, rewritten).
+test(expansion_of_the_end) :-
+    is_assumed("term_expansion(end_of_file, [(p(X) :- p(X)), end_of_file]).\np(a).\n", p/1, rewritten).
 test(directive_expansion) :-
     is_assumed("term_expansion((:- d(X)), (p(X) :- p(X))).\np(_).\n:- d(_).\n", p/1, rewritten).
 test(multifile) :-
