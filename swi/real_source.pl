@@ -672,7 +672,9 @@ source_of(Path, Items, Source) :-
     collected(F, member(arithmetic(F), Items), Arithmetic),
     findall(import(F, H, S), member(import(F, H, S), Items), Imports),
     findall(import(F, H, S), member(reexport(F, H, S), Items), Reexports),
-    findall(expansion(K, T), expansion_of(Pairs0, Module, K, T), Expansions),
+    findall(P-clause(0, H, true), member(added(P, H), Asserted), Pairs2),
+    append(Pairs0, Pairs2, Expanding),
+    findall(expansion(K, T), expansion_of(Expanding, Module, K, T), Expansions),
     findall(doubt(L, D), member(doubt(L, D), Items), Doubts0),
     findall(doubt(L, D), rewritten_clause(Items, Expansions, L, D), Doubts1),
     findall(doubt(L, asserts), member(unknown_assert(L), Asserted), Adds0),
@@ -743,17 +745,16 @@ asserted_in(Items, _, Found) :-
     asserted_by(Goal, M, Line, Found).
 
 asserted_by(Body, Module, Line, Found) :-
-    sub_term(Goal, Body),
-    nonvar(Goal),
+    goal_within(Body, Module, Goal, Context),
     (   atom(Goal)
     ->  adds_name(Goal),
         Found = unknown_assert(Line)
-    ;   compound(Goal),
-        compound_name_arguments(Goal, Name, [Clause|More]),
+    ;   compound_name_arguments(Goal, Name, [Clause|More]),
         (   adds_name(Name)
-        ->  (   more_fits(More), catch(clause_parts(Clause, Module, M, Head, B), _, fail)
+        ->  (   more_fits(More), atom(Context), catch(clause_parts(Clause, Context, M, Head, B), _, fail)
             ->  functor(Head, N, A),
                 (   Found = dynamic(M:N/A)
+                ;   Found = added(M:N/A, Head)
                 ;   B \== true,
                     B \== (true, true),
                     Found = asserts(M:N/A, Line, Head, B)
@@ -761,7 +762,28 @@ asserted_by(Body, Module, Line, Found) :-
             ;   Found = unknown_assert(Line)
             )
         ;   Name == (dynamic),
-            declared(dynamic, Clause, Module, Found)
+            atom(Context),
+            declared(dynamic, Clause, Context, Found)
+        )
+    ).
+
+%   goal_within(+Term, +Module0, -Goal, -Module): Goal is an atom or a compound
+%   term in Term, and Module is that of the text, or what is before a colon
+%   or after an @ around it.
+
+goal_within(Term, Module, Term, Module) :-
+    atom(Term),
+    !.
+goal_within(Term, Module0, Goal, Module) :-
+    compound(Term),
+    (   ( Term = M:Inner ; Term = @(Inner, M) )
+    ->  goal_within(Inner, M, Goal, Module)
+    ;   compound_name_arity(Term, _, Arity),
+        Arity > 0,
+        (   Goal = Term,
+            Module = Module0
+        ;   arg(_, Term, Argument),
+            goal_within(Argument, Module0, Goal, Module)
         )
     ).
 

@@ -218,6 +218,14 @@ test(sort, Sets == [[1]]) :-
     said("p(L, S) :- sort(L, M), q(M, S).\nq([], []).\nq([H|T], [H|R]) :- q(T, R).\n", p/2, Sets, []).
 test(asserted_rule) :-
     is_open("p(X) :- assertz((q(X) :- q(X))), q(X).\n", p/1).
+test(asserted_rule_of_another_module) :-
+    is_open(":- module(m, []).\n:- dynamic user:q/1.\np(X) :- user:assertz((q(X) :- q(X))), user:q(X).\n", p/1).
+test(asserted_rule_of_a_context) :-
+    is_open(":- module(m, []).\n:- dynamic user:q/1.\np(X) :- @(assertz((q(X) :- q(X))), user), user:q(X).\n", p/1).
+test(asserted_rule_of_a_directive_with_a_module) :-
+    is_open(":- module(m, []).\n:- user:assertz((q(X) :- q(X))).\np(X) :- user:q(X).\n", p/1).
+test(asserted_rule_of_a_clause_for_another_module) :-
+    is_open(":- module(m, []).\n:- dynamic q/1.\nuser:p(X) :- assertz((q(X) :- q(X))), q(X).\n", user:p/1).
 test(asserted_fact, Sets == [[]]) :-
     said(":- dynamic n/1.\np(X) :- retract(n(Y)), Z is Y + 1, assertz(n(Z)), X = Z.\n", p/1, Sets, []).
 test(facts_may_be_anything) :-
@@ -434,6 +442,10 @@ test(abstract_table) :-
     is_assumed(":- table p/1 as subsumptive.\np(s(X)) :- p(X).\n", p/1, tabled).
 test(unknown_clause) :-
     is_assumed(":- dynamic q/1.\nadd(C) :- assertz(C).\np(X) :- q(X).\n", p/1, adds).
+test(unknown_clause_of_a_module) :-
+    is_assumed(":- dynamic q/1.\nadd(M, X) :- M:assertz((q(X) :- q(X))).\np(X) :- q(X).\n", p/1, adds).
+test(asserted_expansion) :-
+    is_assumed(":- assertz(goal_expansion(q(X), p(X))).\np(X) :- q(X).\nq(_).\n", p/1, rewritten).
 test(unknown_clause_by_closure) :-
     is_assumed(":- dynamic q/1.\nadd(C) :- maplist(assertz, C).\np(X) :- q(X).\n", p/1, adds).
 test(unread_clause) :-
