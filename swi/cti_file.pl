@@ -170,12 +170,13 @@ by_line(Order, A, B) :-
 own_keys(Source, Own) :-
     assoc_to_keys(Source.clauses, Keys),
     append([Keys, Source.dynamic], All0),
-    exclude(refused, All0, All),
+    exclude(refused(Source), All0, All),
     sort(All, Own).
 
-refused(_:Name/Arity) :-
+refused(Source, Module:Name/Arity) :-
     functor(Goal, Name, Arity),
-    is_protected(Goal).
+    is_protected(Goal),
+    \+ memberchk(Module:Name/Arity, Source.redefined).
 
 shown(Module:PI, Module, PI) :- !.
 shown(Key, _, Key).

@@ -264,7 +264,7 @@ rewritten_goal(G, Context) -->
 %   Variables that hold numbers after a goal, whose name no file can take.
 
 numbers_after(G, Context0, Context) :-
-    (   nonvar(G), number_result(G, V), var(V), is_protected(G)
+    (   nonvar(G), number_result(G, V), var(V), is_kept(G, Context0)
     ->  Context = Context0.put(numbers, [V|Context0.numbers])
     ;   nonvar(G), G = must_be(Type, V), var(V),
         memberchk(Type, [integer, nonneg, positive_integer]),
@@ -300,7 +300,7 @@ goal_in(M, G, Context, P) -->
 resolved(G, Context, Where) :-
     functor(G, Name, Arity),
     PI = Name/Arity,
-    (   is_protected(G)
+    (   is_kept(G, Context)
     ->  Where = builtin
     ;   own_module(Context, M),
         is_defined(Context.source, M:PI)
@@ -321,6 +321,14 @@ resolved(G, Context, Where) :-
     ->  Where = library(Module)
     ;   Where = unknown(PI)
     ).
+
+%   is_kept(+Goal, +Context): Goal is built in, and the file does not redefine
+%   it.
+
+is_kept(G, Context) :-
+    is_protected(G),
+    functor(G, Name, Arity),
+    \+ ( member(M, [Context.module, user]), memberchk(M:Name/Arity, Context.source.redefined) ).
 
 %   Where the clauses of a call may be: its module, and the module of the file
 %   for a unit of tests. From user, modules inherit what they do not import.

@@ -26,6 +26,7 @@ A predicate is Module:Name/Arity. A source is a dict:
 | imports     | import(Path,Header,Selection), in order                     |
 | reexports   | those of them that it exports again                         |
 | arithmetic  | Name/Arity of the file's own functions in arithmetic        |
+| redefined   | the predicates that stand for built-in ones of their names  |
 | expansions  | expansion(Kind,Pattern): what the file rewrites when loaded |
 | doubts      | doubt(Line,Doubt): what was not understood of the file      |
 */
@@ -496,6 +497,7 @@ declaration(multifile(Specs), multifile, Specs).
 declaration(table(Specs), tabled, Specs).
 declaration(meta_predicate(Specs), meta, Specs).
 declaration(arithmetic_function(Specs), arithmetic, Specs).
+declaration(redefine_system_predicate(Specs), redefined, Specs).
 
 declared(Kind, Specs, _, _) :-
     var(Specs),
@@ -537,6 +539,10 @@ declared(Kind, Name//Arity0, Module, Item) :-
     integer(Arity0),
     Arity is Arity0 + 2,
     declared(Kind, Name/Arity, Module, Item).
+declared(redefined, Head, Module, redefined(Module:Name/Arity)) :-
+    !,
+    callable(Head),
+    functor(Head, Name, Arity).
 declared(Kind, Name/Arity, Module, Item) :-
     atom(Name),
     integer(Arity),
@@ -670,6 +676,7 @@ source_of(Path, Items, Source) :-
     collected(P-K, member(tabled(P, K), Items), Tabled),
     collected(P-H, member(meta(P, H), Items), Meta),
     collected(F, member(arithmetic(F), Items), Arithmetic),
+    collected(P, member(redefined(P), Items), Redefined),
     findall(import(F, H, S), member(import(F, H, S), Items), Imports),
     findall(import(F, H, S), member(reexport(F, H, S), Items), Reexports),
     findall(P-clause(0, H, true), member(added(P, H), Asserted), Pairs2),
@@ -682,7 +689,7 @@ source_of(Path, Items, Source) :-
     append(Doubts0, Doubts1, Doubts),
     Source = source{path:Path, module:Module, exports:Exports, clauses:Clauses, dynamic:Dynamic,
                     multifile:Multifile, conditional:Conditional, tabled:Tabled, meta:Meta,
-                    imports:Imports, reexports:Reexports, arithmetic:Arithmetic,
+                    imports:Imports, reexports:Reexports, arithmetic:Arithmetic, redefined:Redefined,
                     expansions:Expansions,
                     doubts:Doubts, adds:Adds}.
 

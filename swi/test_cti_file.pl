@@ -268,6 +268,9 @@ test(user_before_system) :-
 test(refused_clauses) :-
     is_open("repeat.\np(X) :- repeat, X = a.\n", p/1),
     \+ said("repeat.\np(X) :- repeat, X = a.\n", repeat/0, _, _).
+test(redefined) :-
+    is_open(":- redefine_system_predicate(number_codes(_, _)).\nnumber_codes(X, Y) :- number_codes(X, Y).\n\
+p(X) :- number_codes(X, \"12\").\n", p/1).
 test(many_arguments, Sets == [[1]]) :-
     said("p([], _, _, _, _, _, _, _, _, _, _, _, _, _).\n\
 p([_|T], A, B, C, D, E, F, G, H, I, J, K, L, M) :- p(T, A, B, C, D, E, F, G, H, I, J, K, L, M).\n",
