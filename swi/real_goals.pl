@@ -80,6 +80,7 @@ doubts_of(Source, Predicate, Real) -->
     doubt_if(memberchk(Predicate, Source.multifile), Line, multifile),
     doubt_if(memberchk(Predicate, Source.conditional), Line, conditional),
     doubt_if(memberchk(Predicate-moded, Source.tabled), Line, tabled),
+    doubt_if(imported_by_name(Source, Predicate), Line, imported),
     doubt_if(( memberchk(Predicate, Source.dynamic), Source.adds \== [] ), Line, adds).
 
 doubt_if(Condition, Line, Doubt) -->
@@ -90,6 +91,16 @@ doubt_if(Condition, Line, Doubt) -->
 
 first_line([], 0).
 first_line([clause(Line, _, _)|_], Line).
+
+%   The file imports a predicate of that name, and then its own clauses may be
+%   refused.
+
+imported_by_name(Source, Module:PI) :-
+    Module == Source.module,
+    member(import(_, _, Selection), Source.imports),
+    is_list(Selection),
+    selected(Selection, [], PI, _),
+    !.
 
 pure_clauses([], _, _, _, []) --> [].
 pure_clauses([clause(Line, Head, Body)|Real], Main, Source, Module:PI, [pure(Args, Pure, Line)|Clauses]) -->
@@ -837,6 +848,7 @@ may_specialise(Predicate, Source, Closures) :-
     \+ comes_and_goes(Source, Predicate),
     \+ memberchk(Predicate, Source.conditional),
     \+ memberchk(Predicate-_, Source.tabled),
+    \+ imported_by_name(Source, Predicate),
     forall(member(clause(_, Head, _), Real), takes_closures(Closures, Head)).
 
 takes_closures(Closures, Head) :-

@@ -360,6 +360,10 @@ test(renamed_import) :-
     is_assumed(":- use_module(library(ugraphs), [vertices/2 as foo]).\n\
 :- use_module(nowhere, [r/2 as append]).\np(X) :- append(X, X).\n",
                p/1, external(none:append/2)).
+test(clauses_of_what_is_imported) :-
+    is_assumed(":- use_module(library(lists), [append/3]).\nappend(_, _, _).\np(X) :- append(_, X, _).\n", p/1, imported).
+test(clauses_of_what_is_imported_under_the_name) :-
+    is_assumed(":- use_module(library(lists), [append/3 as app]).\napp(_, _, _).\np(X) :- app(_, X, _).\n", p/1, imported).
 test(module_that_is_not_there) :-
     is_assumed("bar(_).\np(X) :- foo:bar(X).\n", p/1, external(foo:bar/1)).
 test(module_that_may_define_it) :-
