@@ -165,9 +165,6 @@ q([_|_]) :- q([a]).\nq(a).\n", p/1).
 test(codes_of_a_directive_with_another_module) :-
     is_open(":- module(m, []).\n:- user:set_prolog_flag(double_quotes, codes).\np(X) :- X = \"ab\", q(X).\n\
 q([_|_]) :- q([a]).\nq(a).\n", p/1).
-test(codes_of_another_module, Sets == [[]]) :-
-    said(":- module(m, []).\n:- set_prolog_flag(user:double_quotes, codes).\np(X) :- X = \"ab\", q(X).\n\
-q([_|_]) :- q([a]).\nq(_).\n", p/1, Sets, []).
 test(declaration_with_a_module) :-
     is_open(":- user:dynamic(q/1).\nq(a).\np(X) :- q(Y), r(Y), X = a.\nr([]) :- r([]).\nr(a).\n", p/1).
 test(back_quotes) :-
