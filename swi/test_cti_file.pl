@@ -40,6 +40,11 @@ is_assumed_or_open(Text, Predicate) :-
     ;   Assumptions \== []
     ).
 
+%   with_text(+Before, -Text): p/1 goes on where the text in it is a list.
+
+with_text(Before, Text) :-
+    string_concat(Before, "p([_|T]) :- app(\"ab\", T, L), p(L).\napp([], L, L).\napp([H|T], L, [H|R]) :- app(T, L, R).\n", Text).
+
 setup(Text, File) :-
     tmp_file(real, Base),
     file_name_extension(Base, pl, File),
@@ -157,14 +162,21 @@ test(functor_may_be_nil) :-
     is_open("p(X) :- functor(X, F, _), q(F).\nq([]) :- q([]).\nq(a).\n", p/1).
 test(codes) :-
     is_open(":- set_prolog_flag(double_quotes, codes).\np(X) :- X = \"ab\", q(X).\nq([_|_]) :- q([a]).\nq(a).\n", p/1).
+test(texts, Sets == [[1]]) :-
+    with_text("", Text),
+    said(Text, p/1, Sets, []).
 test(codes_of_a_module) :-
-    is_open(":- set_prolog_flag(user:double_quotes, codes).\np(X) :- X = \"ab\", q(X).\nq([_|_]) :- q([a]).\nq(a).\n", p/1).
+    with_text(":- set_prolog_flag(user:double_quotes, codes).\n", Text),
+    is_open(Text, p/1).
 test(codes_of_a_directive_with_a_module) :-
-    is_open(":- module(m, []).\n:- m:set_prolog_flag(double_quotes, codes).\np(X) :- X = \"ab\", q(X).\n\
-q([_|_]) :- q([a]).\nq(a).\n", p/1).
+    with_text(":- module(m, []).\n:- m:set_prolog_flag(double_quotes, codes).\n", Text),
+    is_open(Text, p/1).
 test(codes_of_a_directive_with_another_module) :-
-    is_open(":- module(m, []).\n:- user:set_prolog_flag(double_quotes, codes).\np(X) :- X = \"ab\", q(X).\n\
-q([_|_]) :- q([a]).\nq(a).\n", p/1).
+    with_text(":- module(m, []).\n:- user:set_prolog_flag(double_quotes, codes).\n", Text),
+    is_open(Text, p/1).
+test(codes_of_another_module, Sets == [[1]]) :-
+    with_text(":- module(m, []).\n:- set_prolog_flag(user:double_quotes, codes).\n", Text),
+    said(Text, p/1, Sets, []).
 test(declaration_with_a_module) :-
     is_open(":- user:dynamic(q/1).\nq(a).\np(X) :- q(Y), r(Y), X = a.\nr([]) :- r([]).\nr(a).\n", p/1).
 test(back_quotes) :-
