@@ -398,8 +398,9 @@ changes_reading(Goal) :-
 
 may_run(Line, Goal, State0-Items, State-Rest) :-
     (   Goal = set_prolog_flag(Flag0, _)
-    ->  strip_module(Flag0, _, Flag),
-        (   ( var(Flag) ; memberchk(Flag, [double_quotes, back_quotes]) )
+    ->  strip_module(Flag0, M, Flag),
+        (   ( var(Flag) ; memberchk(Flag, [double_quotes, back_quotes]) ),
+            \+ ( nonvar(Flag0), Flag0 = _:_, atom(M), M \== State0.module )
         ->  Items = [doubt(Line, flags)|Rest]
         ;   Items = Rest
         ),
