@@ -22,11 +22,13 @@ keys part(Key, Number).
 :- use_module(library(assoc)).
 :- use_module(library(lists)).
 :- use_module(library(pairs)).
+:- use_module(library(yall)).
 :- use_module(real_goals).
 
 most_arguments(12).
 most_variables(48).
 most_shared(36).
+most_distributed(128).
 
 %!  covering_program(+Source:dict, -Program) is det.
 
@@ -82,17 +84,30 @@ bounded(Pure, Key, Number, Clauses) -->
     bounded(Pure, Key, Number, _, Clauses).
 
 bounded([], _, Number, Number, []) --> [].
-bounded([pure(Args, Body, Line)|Pure], Key, Number0, Number, Clauses) -->
-    { wide_disjunction(Args, Body, Bodies) },
-    !,
-    { findall(pure(Args, One, Line), member(One, Bodies), Pure1),
-      append(Pure1, Pure, Pure2) },
-    bounded(Pure2, Key, Number0, Number, Clauses).
-bounded([pure(Args0, Body, Line)|Pure], Key, Number0, Number, [Clause|Clauses]) -->
+bounded([Pure|Pures], Key, Number0, Number, Clauses) -->
+    { most_distributed(Most),
+      distributed(Pure, Most, Distributed, []) },
+    bounded_clauses(Distributed, Key, Number0, Number1, Clauses, More),
+    bounded(Pures, Key, Number1, Number, More).
+
+%   distributed(+Pure, +Most, -Distributed, ?Rest): at most so many clauses.
+
+distributed(pure(Args, Body, Line), Most, Distributed, Rest) :-
+    (   wide_disjunction(Args, Body, Bodies),
+        length(Bodies, Count),
+        Count =< Most
+    ->  Each is Most // Count,
+        findall(pure(Args, One, Line), member(One, Bodies), Pures),
+        foldl({Each}/[Pure, D0, D]>>distributed(Pure, Each, D0, D), Pures, Distributed, Rest)
+    ;   Distributed = [pure(Args, Body, Line)|Rest]
+    ).
+
+bounded_clauses([], _, Number, Number, Clauses, Clauses) --> [].
+bounded_clauses([pure(Args0, Body, Line)|Pure], Key, Number0, Number, [Clause|Clauses], Rest) -->
     { packed(Args0, Args) },
     flat(Body, Args, Key, Line, Number0, Number1, Goals),
     short(Args, Goals, Key, Line, Number1, Number2, Clause),
-    bounded(Pure, Key, Number2, Number, Clauses).
+    bounded_clauses(Pure, Key, Number2, Number, Clauses, Rest).
 
 %   wide_disjunction(+Args, +Body, -Bodies): a disjunction that shares more
 %   than 12 variables with the rest is distributed, where it is among the

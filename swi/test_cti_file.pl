@@ -303,6 +303,15 @@ test(wide_disjunction, Sets == [[1]]) :-
     format(string(Text), "p([], _).\np([_|T], f(~w)) :- ( q(~w) -> p(T, f(~w)) ; p(T, g(~w)) ).\nq(~w).\n",
            [Names, Names, Names, Names, Names]),
     said(Text, p/2, Sets, []).
+test(many_wide_disjunctions) :-
+    numlist(1, 14, Ns),
+    findall(V, ( member(N, Ns), format(string(V), "X~d", [N]) ), Vs),
+    atomic_list_concat(Vs, ', ', Names),
+    findall(G, ( member(_, Ns), format(string(G), "( q(~w) -> r(~w) ; s(~w) )", [Names, Names, Names]) ), Gs0),
+    append(Gs0, Gs0, Gs),
+    atomic_list_concat(Gs, ', ', Goals),
+    format(string(Text), "p(~w) :- ~w, p(~w).\n", [Names, Goals, Names]),
+    is_open(Text, p/14).
 test(deep_term) :-
     numlist(1, 2000, Ns),
     format(string(Text), "p(X) :- q(~w), p(X).\nq(_).\n", [Ns]),
