@@ -524,6 +524,7 @@ assumption_text(risk(runs, PI), Text) :-
     format(string(Text), "~q may run goals that are not known, or wait: it ends", [PI]).
 assumption_text(bound, "the upper bound of between/3 is not inf").
 assumption_text(text, "the text that is formatted is not known: it has no ~@").
+assumption_text(letter, "letters of format/2 that the file defines, if the text has them, run goals that end").
 assumption_text(function, "the file's own function in arithmetic ends").
 assumption_text(rewritten, "the file rewrites this when it is loaded: what comes of it ends as this does").
 assumption_text(multifile, "other files may add clauses: these end").

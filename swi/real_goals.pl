@@ -570,8 +570,15 @@ between_goal(L, H, X, Context, P) -->
 %   A text of format/2 that is not known may hold ~@, which runs a goal.
 
 text_note(G, Context) -->
-    (   { format_text(G, Text), \+ plain_text(Text) }
-    ->  note(Context, text)
+    (   { format_text(G, Text) }
+    ->  (   { plain_text(Text) }
+        ->  []
+        ;   note(Context, text)
+        ),
+        (   { Context.main.letters == yes }
+        ->  note(Context, letter)
+        ;   []
+        )
     ;   []
     ).
 
@@ -581,9 +588,31 @@ format_text(format(_, Text, _), Text).
 format_text(debug(_, Text, _), Text).
 format_text(ansi_format(_, Text, _), Text).
 format_text(print_message(_, Message), Text) :-
+    message_text(Message, Text).
+format_text(message_to_string(Message, _), Text) :-
+    message_text(Message, Text).
+format_text(print_message_lines(_, _, Lines), Text) :-
+    (   ground(Lines),
+        \+ ( sub_term(Sub, Lines), atomic(Sub), \+ plain_text(Sub), \+ number(Sub), Sub \== [] )
+    ->  Text = ''
+    ;   true
+    ).
+
+%   message_text(+Message, -Text): a text that the message has. Messages for
+%   errors and for goals that failed may have one within.
+
+message_text(Message, Text) :-
     (   var(Message)
     ->  true
-    ;   Message = format(Text, _)
+    ;   sub_term(Sub, Message),
+        nonvar(Sub),
+        Sub = format(Text0, _),
+        \+ plain_text(Text0)
+    ->  Text = Text0
+    ;   Message = error(Formal, _),
+        var(Formal)
+    ->  true
+    ;   Text = ''
     ).
 
 plain_text(Text) :-

@@ -27,6 +27,7 @@ A predicate is Module:Name/Arity. A source is a dict:
 | reexports   | those of them that it exports again                         |
 | arithmetic  | Name/Arity of the file's own functions in arithmetic        |
 | redefined   | the predicates that stand for built-in ones of their names  |
+| letters     | `yes` where the file may define letters of format/2         |
 | expansions  | expansion(Kind,Pattern): what the file rewrites when loaded |
 | doubts      | doubt(Line,Doubt): what was not understood of the file      |
 */
@@ -688,11 +689,24 @@ source_of(Path, Items, Source) :-
     findall(doubt(L, asserts), member(unknown_assert(L), Asserted), Adds0),
     sort(Adds0, Adds),
     append(Doubts0, Doubts1, Doubts),
+    (   member(raw(_, Raw), Items), has_atom(Raw, format_predicate)
+    ->  Letters = yes
+    ;   Letters = no
+    ),
     Source = source{path:Path, module:Module, exports:Exports, clauses:Clauses, dynamic:Dynamic,
                     multifile:Multifile, conditional:Conditional, tabled:Tabled, meta:Meta,
                     imports:Imports, reexports:Reexports, arithmetic:Arithmetic, redefined:Redefined,
-                    expansions:Expansions,
+                    expansions:Expansions, letters:Letters,
                     doubts:Doubts, adds:Adds}.
+
+has_atom(Term, Name) :-
+    sub_term(Sub, Term),
+    (   atom(Sub)
+    ->  Sub == Name
+    ;   compound(Sub),
+        compound_name_arity(Sub, Name, _)
+    ),
+    !.
 
 collected(Template, Goal, Set) :-
     findall(Template, Goal, List),

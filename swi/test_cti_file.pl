@@ -416,6 +416,16 @@ test(message_that_runs) :-
     is_assumed("p(X) :- print_message(error, format(\"~@\", [p(X)])).\n", p/1, text).
 test(unknown_message) :-
     is_assumed("p(X) :- M = format(\"~@\", [p(X)]), print_message(error, M).\n", p/1, text).
+test(text_within_a_message) :-
+    is_assumed("p(X) :- print_message(error, error(format(\"~@\", [user:p(X)]), _)).\n", p/1, text).
+test(unknown_error) :-
+    is_assumed("p(X) :- E = format(\"~@\", [user:p(X)]), print_message(error, error(E, _)).\n", p/1, text).
+test(message_that_is_known, Doubts == []) :-
+    said("p(X) :- print_message(error, error(type_error(integer, X), _)), print_message(error, own(X)).\n", p/1, [[]], Doubts).
+test(lines_that_run) :-
+    is_assumed("p(X) :- print_message_lines(user_error, '', ['~@'-[user:p(X)], nl]).\n", p/1, text).
+test(own_letter) :-
+    is_assumed(":- format_predicate(x, p(_, _)).\np(X, Y) :- p(X, Y).\nq(X) :- format(\"~x\", [X]).\n", q/1, letter).
 test(own_function) :-
     is_assumed(":- use_module(library(arithmetic)).\n:- arithmetic_function(f/1).\nf(X, Y) :- Y is f(X).\n", f/2, function).
 test(goal_expansion) :-
