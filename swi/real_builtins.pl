@@ -34,6 +34,7 @@ is_protected(Goal) :-
 %   by (,)/2, (;)/2, true and (=)/2 of
 %
 %     - goal(G): a goal of the file;
+%     - hooks(G): the hooks that the built-in goal G may call;
 %     - find(R): the search of all answers of R, none of which stays;
 %     - prelude(G): a goal of real_goals' own predicates;
 %     - result(X): X is atomic, and not [].
@@ -41,7 +42,7 @@ is_protected(Goal) :-
 rewritten(system, G, R) :- rewritten_system(G, R).
 rewritten(aggregate, G, R) :- rewritten_aggregate(G, R).
 rewritten(solution_sequences, G, R) :- rewritten_sequence(G, R).
-rewritten(prolog_debug, assertion(G), find(goal(G))).
+rewritten(prolog_debug, assertion(G), ( find(goal(G)), hooks(assertion(G)) )).
 rewritten(time, call_with_time_limit(_, G), goal(G)).
 rewritten(time, call_with_time_limit(_, G, _), goal(G)).
 rewritten(sort, predsort(P, L, S), R) :- sorted_by(P, L, S, R).
@@ -232,14 +233,14 @@ result_places(flag, 3, [2]).
 result_places(divmod, 4, [1, 2, 3, 4]).
 result_places(nth_integer_root_and_remainder, 4, [1, 2, 3, 4]).
 
-library_places(readutil, read_line_to_string, 2, [2]).
-library_places(readutil, read_stream_to_string, 2, [2]).
+library_places(read_util, read_line_to_string, 2, [2]).
+library_places(read_util, read_stream_to_string, 2, [2]).
 library_places(random, random, 1, [1]).
 library_places(random, random_between, 3, [1, 2, 3]).
 library_places(random, random, 3, [1, 2, 3]).
 library_places(gensym, gensym, 2, [2]).
-library_places(backcomp, concat_atom, 2, [2]).
-library_places(backcomp, concat_atom, 3, [3]).
+library_places(backward_compatibility, concat_atom, 2, [2]).
+library_places(backward_compatibility, concat_atom, 3, [3]).
 library_places(lists, numlist, 3, [1, 2]).
 
 %!  is_quiet(+Where, +Goal) is semidet.
@@ -269,17 +270,17 @@ quiet(system,
         abolish_table_subgoals/1, '$skip_list'/3, '$set_source_module'/1, '$set_source_module'/2,
         '$current_source_module'/1, '$current_typein_module'/1, '$seek_list'/4, '$btree_find_node'/5 ]).
 quiet(error, [must_be/2, is_of_type/2, is_list_or_partial/1]).
-quiet(prolog_debug, [debug/1, nodebug/1, debugging/1, debugging/2, debug_message_context/1]).
+quiet(prolog_debug, [debug/1, debug/3, nodebug/1, debugging/1, debugging/2, debug_message_context/1]).
 quiet(gensym, [gensym/2, reset_gensym/1, reset_gensym/0]).
-quiet(readutil,
+quiet(read_util,
       [ read_line_to_string/2, read_line_to_codes/2, read_line_to_codes/3, read_stream_to_codes/2, read_stream_to_codes/3,
         read_term_from_atom/3, read_file_to_codes/3, read_file_to_string/3, read_file_to_terms/3 ]).
 quiet(random, [random/1, random_between/3, random/3, set_random/1, random_member/2, random_permutation/2]).
 quiet(lists, [numlist/3]).
-quiet(backcomp, [concat_atom/2, concat_atom/3]).
+quiet(backward_compatibility, [concat_atom/2, concat_atom/3]).
 quiet(dif, [dif/2]).
 quiet(date, [parse_time/2, parse_time/3, date_time_value/3]).
-quiet(listing, [portray_clause/1, portray_clause/2, listing/0, listing/1]).
+quiet(prolog_listing, [portray_clause/1, portray_clause/2, listing/0, listing/1]).
 quiet(ansi_term, [ansi_format/3]).
 quiet(terms, [term_size/2, variant/2, subsumes_chk/2, cyclic_term/1, acyclic_term/1]).
 quiet(system, [format/1, format/2, format/3]).
@@ -313,23 +314,36 @@ hooks(PI, Hooks) :-
     !,
     findall(Hook, ( member(Kind, Kinds), hook(Kind, Hook) ), Hooks).
 
-hooks_of([print], [print/1, print/2, write_term/2, write_term/3, format/1, format/2, format/3, portray_clause/1, portray_clause/2,
-                   listing/1, listing/0, writeln/1, writeln/2]).
-hooks_of([print, message], [print_message/2, print_message_lines/3, message_to_string/2, debug/3, assertion_failed/2]).
-hooks_of([files], [absolute_file_name/2, absolute_file_name/3, exists_source/1, exists_source/2, expand_file_search_path/2]).
+hooks_of([print], [print/1, print/2, write_term/2, write_term/3, write_length/3, format/1, format/2, format/3, portray_clause/1,
+                   portray_clause/2, listing/1, listing/0, writeln/1, writeln/2, ansi_format/3]).
+hooks_of([print, message], [print_message/2, print_message_lines/3, message_to_string/2, version/1, license/1, license/2]).
+hooks_of([print, message, debug], [debug/3]).
+hooks_of([print, message, failed], [assertion/1]).
+hooks_of([files], [absolute_file_name/2, absolute_file_name/3, exists_source/1, exists_source/2, expand_file_search_path/2,
+                   read_file_to_codes/3, read_file_to_string/3, read_file_to_terms/3]).
 hooks_of([type], [must_be/2, is_of_type/2]).
 
 hook(print, user:portray/1).
 hook(message, prolog:message/3).
+hook(message, prolog:message/4).
 hook(message, prolog:error_message/3).
+hook(message, prolog:error_message/4).
 hook(message, prolog:message_context/3).
+hook(message, prolog:message_context/4).
 hook(message, prolog:message_location/3).
+hook(message, prolog:message_location/4).
 hook(message, prolog:deprecated/3).
+hook(message, prolog:deprecated/4).
+hook(message, prolog:message_line_element/2).
 hook(message, prolog:message_prefix_hook/2).
 hook(message, user:message_hook/3).
+hook(message, user:thread_message_hook/3).
 hook(message, user:message_property/2).
 hook(message, user:generate_message_hook/3).
+hook(debug, prolog:debug_print_hook/3).
+hook(failed, prolog:assertion_failed/2).
 hook(files, user:file_search_path/2).
+hook(files, user:library_directory/1).
 hook(files, user:prolog_file_type/2).
 hook(files, user:prolog_load_file/2).
 hook(type, error:has_type/2).

@@ -678,6 +678,8 @@ covering(result(X), _, P) -->
     { result(X, true, P) }.
 covering(goal(G), Context, P) -->
     goal(G, Context, P).
+covering(hooks(G), Context, P) -->
+    hook_calls(G, Context, P).
 covering(find(R), Context, P) -->
     covering(R, Context, P0),
     { both(P0, fail, P1),

@@ -243,6 +243,21 @@ test(hook_of_messages) :-
     is_open(":- multifile prolog:message//1.\nprolog:message(a) --> { p(_) }.\np(X) :- print_message(error, X).\n", p/1).
 test(hook_of_print) :-
     is_open(":- multifile user:portray/1.\nuser:portray(a) :- p(a).\np(X) :- print(X).\n", p/1).
+test(hook_of_the_length_of_a_text) :-
+    is_open(":- multifile user:portray/1.\nuser:portray(a) :- p(a).\np(X) :- write_length(X, _, [portray(true)]).\n", p/1).
+test(hook_of_an_assertion) :-
+    is_open(":- multifile prolog:assertion_failed/2.\nprolog:assertion_failed(_, _) :- p(_).\np(X) :- assertion(X = a).\n", p/1).
+test(hook_of_messages_in_a_language) :-
+    is_open(":- multifile prolog:message//2.\nprolog:message(_, a) --> { p(_) }.\np(X) :- print_message(error, X).\n", p/1).
+test(hook_of_debugging) :-
+    is_open(":- multifile prolog:debug_print_hook/3.\nprolog:debug_print_hook(_, _, _) :- p(_).\np(X) :- debug(a, \"~w\", [X]).\n", p/1).
+test(hook_of_files) :-
+    is_open(":- multifile user:file_search_path/2.\nuser:file_search_path(a, _) :- p(_).\np(X) :- read_file_to_codes(a(X), _, []).\n", p/1).
+test(hook_of_libraries) :-
+    is_open(":- multifile user:library_directory/1.\nuser:library_directory(_) :- p(_).\n\
+p(X) :- absolute_file_name(library(X), _, []).\n", p/1).
+test(no_hooks, Doubts == []) :-
+    said("p(X) :- debug(a, \"~w\", [X]), portray_clause(X), read_line_to_string(user_input, _).\n", p/1, [[]], Doubts).
 test(hook_of_types) :-
     is_open(":- module(m, []).\n:- multifile error:has_type/2.\nerror:has_type(t, X) :- p(X).\np(X) :- must_be(t, X).\n", p/1).
 test(decided_condition) :-
