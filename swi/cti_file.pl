@@ -520,6 +520,8 @@ assumption_text(risk(place, PI), Text) :-
     format(string(Text), "~q changes a term in place: no term that is known by its size grows", [PI]).
 assumption_text(risk(waits, PI), Text) :-
     format(string(Text), "~q leaves a goal waiting: it ends when it runs", [PI]).
+assumption_text(risk(imports, PI), Text) :-
+    format(string(Text), "~q imports from another module: nothing that the file calls", [PI]).
 assumption_text(risk(runs, PI), Text) :-
     format(string(Text), "~q may run goals that are not known, or wait: it ends", [PI]).
 assumption_text(bound, "the upper bound of between/3 is not inf").
@@ -539,5 +541,6 @@ assumption_text(dialect(Dialect), Text) :-
     format(string(Text), "the file is for ~w: it is as for SWI-Prolog", [Dialect]).
 assumption_text(include(Spec), Text) :-
     format(string(Text), "the included file ~q was not found: it adds no clauses", [Spec]).
+assumption_text(inherits, "what is imported here has no name that the file calls").
 assumption_text(loads(_), "what is loaded is not known: it adds no clauses").
 assumption_text(asserts, "a clause that it adds is not known").

@@ -266,7 +266,7 @@ quiet(system,
         nth_clause/3, abolish/1, abolish/2, at_halt/1, context_module/1, current_format_predicate/2, current_op/3,
         current_predicate/1, current_predicate/2, current_table/2, op/3, predicate_property/2, set_module/1,
         source_file/2, strip_module/3, write_term/2, write_term/3, (dynamic)/1, (dynamic)/2, (discontiguous)/1,
-        (multifile)/1, (public)/1, (volatile)/1, export/1, import/1, prolog_frame_attribute/3, dwim_predicate/2,
+        (multifile)/1, (public)/1, (volatile)/1, export/1, prolog_frame_attribute/3, dwim_predicate/2,
         abolish_table_subgoals/1, '$skip_list'/3, '$set_source_module'/1, '$set_source_module'/2,
         '$current_source_module'/1, '$current_typein_module'/1, '$seek_list'/4, '$btree_find_node'/5 ]).
 quiet(error, [must_be/2, is_of_type/2, is_list_or_partial/1]).
@@ -293,6 +293,8 @@ risk(PI, place) :-
     memberchk(PI, [setarg/3, nb_setarg/3, nb_linkarg/3, nb_linkval/2, b_set_dict/3, nb_set_dict/3, nb_link_dict/3]).
 risk(PI, waits) :-
     memberchk(PI, [freeze/2, put_attr/3, put_attrs/2, when/2]).
+risk(PI, imports) :-
+    memberchk(PI, [import/1, add_import_module/3, set_base_module/1]).
 risk(PI, runs) :-
     memberchk(PI,
               [ call_continuation/1, shift/1, shift_for_copy/1, reset/3, engine_next/2, engine_next_reified/2,

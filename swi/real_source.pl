@@ -384,14 +384,24 @@ found_within(Term, Line, State0, State, Items, Rest) :-
     findall(Goal,
             ( sub_term(Goal, Term),
               changes_reading(Goal),
-              \+ ( Term = clause(_), loading(Goal, Spec, _), \+ ground(Spec) ) ),
+              \+ ( Term = clause(_), \+ names_what_it_changes(Goal) ) ),
             Goals),
     foldl(may_run(Line), Goals, State0-Items, State-Rest).
+
+names_what_it_changes(Goal) :-
+    (   loading(Goal, Spec, _)
+    ->  ground(Spec)
+    ;   Goal = add_import_module(Module, _, _)
+    ->  atom(Module)
+    ;   Goal = import(Spec)
+    ->  ground(Spec)
+    ;   true
+    ).
 
 changes_reading(Goal) :-
     compound(Goal),
     compound_name_arity(Goal, Name, Arity),
-    (   memberchk(Name/Arity, [op/3, set_prolog_flag/2])
+    (   memberchk(Name/Arity, [op/3, set_prolog_flag/2, import/1, add_import_module/3, set_base_module/1])
     ->  true
     ;   Name \== '[|]',
         loading(Goal, _, _)
@@ -470,6 +480,13 @@ obeyed(begin_tests(Name, _), Line, In, State0, State, Items, Rest) :-
     obeyed(begin_tests(Name), Line, In, State0, State, Items, Rest).
 obeyed(end_tests(_), _, _, State0, State, Rest, Rest) :-
     State = State0.put(module, State0.file_module).
+obeyed(import(Spec), Line, _, State, State, [Item|Rest], Rest) :-
+    (   nonvar(Spec), Spec = M:Name/Arity, atom(M), atom(Name), integer(Arity)
+    ->  Item = import(none, header(M, []), [Name/Arity])
+    ;   Item = doubt(Line, inherits)
+    ).
+obeyed(add_import_module(_, _, _), Line, _, State, State, [doubt(Line, inherits)|Rest], Rest).
+obeyed(set_base_module(_), Line, _, State, State, [doubt(Line, inherits)|Rest], Rest).
 obeyed(Directive, Line, _, State0, State, Items, Rest) :-
     loading(Directive, Spec, Selection),
     !,

@@ -393,6 +393,12 @@ test(renamed_import) :-
     is_assumed(":- use_module(library(ugraphs), [vertices/2 as foo]).\n\
 :- use_module(nowhere, [r/2 as append]).\np(X) :- append(X, X).\n",
                p/1, external(none:append/2)).
+test(imported_predicate) :-
+    is_assumed(":- module(m, []).\n:- import(other:append/3).\np(X) :- append([], [], X).\n", p/1, external(other:append/3)).
+test(imported_module) :-
+    is_assumed(":- module(m, []).\n:- add_import_module(m, other, start).\np(X) :- append([], [], X).\n", p/1, inherits).
+test(import_of_what_is_not_known) :-
+    is_assumed("p(X) :- import(X), append([], [], _).\n", p/1, risk(imports, import/1)).
 test(clauses_of_what_is_imported) :-
     is_assumed(":- use_module(library(lists), [append/3]).\nappend(_, _, _).\np(X) :- append(_, X, _).\n", p/1, imported).
 test(clauses_of_what_is_imported_under_the_name) :-
