@@ -203,6 +203,11 @@ goal(G, _, fail) -->
     { \+ callable(G) },
     !.
 goal(G, Context, P) -->
+    { compound(G),
+      compound_name_arity(G, Name, 0) },
+    !,
+    goal(Name, Context, P).
+goal(G, Context, P) -->
     rewritten_goal(G, Context),
     plain_goal(G, Context, P).
 
@@ -634,6 +639,7 @@ function_note(G, Context) -->
           memberchk(Name/Arity, [(is)/2, (<)/2, (>)/2, (=<)/2, (>=)/2, (=:=)/2, (=\=)/2]),
           sub_term(Sub, G),
           callable(Sub),
+          \+ ( compound(Sub), compound_name_arity(Sub, _, 0) ),
           functor(Sub, F, A),
           memberchk(F/A, Context.source.arithmetic) }
     ->  note(Context, function)
@@ -729,10 +735,13 @@ qualified(M, C, Closure) :-
     ).
 
 with_arguments(C, Xs, G) :-
-    callable(C),
-    C =.. L0,
-    append(L0, Xs, L),
-    G =.. L.
+    (   compound(C)
+    ->  compound_name_arguments(C, Name, Args0)
+    ;   Name = C, Args0 = []
+    ),
+    atom(Name),
+    append(Args0, Xs, Args),
+    G =.. [Name|Args].
 
 %   A lambda expression of library(yall) is copied for each call, but for
 %   the variables in braces. So all others are new ones.

@@ -239,8 +239,12 @@ plain_head(M:H, _, Module, Head) :-
     !,
     atom(M),
     plain_head(H, M, Module, Head).
-plain_head(H, Module, Module, H) :-
-    callable(H).
+plain_head(H, Module, Module, Head) :-
+    callable(H),
+    (   compound(H), compound_name_arity(H, Name, 0)
+    ->  Head = Name
+    ;   Head = H
+    ).
 
 
 %   Conditional compilation. A condition is `yes`, `no`, or `maybe` where it

@@ -187,6 +187,11 @@ test(variable_term) :-
     is_open("p(X) :- q('$VAR'(1), X).\nq('$VAR'(1), X) :- q('$VAR'(1), X).\n", p/1).
 test(zero_arguments) :-
     is_open("p(X) :- X = f(), q(X).\nq(X) :- q(X).\n", p/1).
+test(goal_of_zero_arguments) :-
+    is_open("p(X) :- r(), X = a.\nr() :- r().\n", p/1),
+    is_open("p(X) :- q(), X = a.\nq :- G = 1, call(q()), G = 1.\n", p/1).
+test(number_of_zero_arguments, Sets == [[]]) :-
+    said("p(X) :- X is random().\n", p/1, Sets, []).
 test(names) :-
     is_open("'it''s \\\\ é'(X) :- '='(X).\n'='(X) :- 'it''s \\\\ é'(X).\np(X) :- '='(X).\n", p/1).
 test(kept_names) :-
