@@ -532,6 +532,7 @@ assumption_text(rewritten, "the file rewrites this when it is loaded: what comes
 assumption_text(multifile, "other files may add clauses: these end").
 assumption_text(conditional, "it depends on :- if: the clauses read here are those loaded").
 assumption_text(tabled, "tabled with moded arguments or options: tabling does not call it more generally").
+assumption_text(transparent, "it runs in the module of its caller: what it calls there ends, as if it were here").
 assumption_text(imported, "it is also imported by its name: the clauses read here are those that are called").
 assumption_text(adds, "clauses that the file adds to it, and that are not known, are facts").
 assumption_text(unread, "this clause could not be read: nothing depends on it").

@@ -81,6 +81,7 @@ doubts_of(Source, Predicate, Real) -->
     doubt_if(memberchk(Predicate, Source.conditional), Line, conditional),
     doubt_if(memberchk(Predicate-moded, Source.tabled), Line, tabled),
     doubt_if(imported_by_name(Source, Predicate), Line, imported),
+    doubt_if(( memberchk(Predicate, Source.transparent), has_context(Real) ), Line, transparent),
     doubt_if(( memberchk(Predicate, Source.dynamic), Source.adds \== [] ), Line, adds).
 
 doubt_if(Condition, Line, Doubt) -->
@@ -91,6 +92,18 @@ doubt_if(Condition, Line, Doubt) -->
 
 first_line([], 0).
 first_line([clause(Line, _, _)|_], Line).
+
+%   A clause has a goal that takes what it calls, or changes, from the module
+%   in which it runs.
+
+has_context(Real) :-
+    member(clause(_, _, Body), Real),
+    sub_term(Goal, Body),
+    callable(Goal),
+    \+ ( compound(Goal), compound_name_arity(Goal, _, 0) ),
+    \+ memberchk(Goal, [(_, _), (_ ; _), (_ -> _), (_ *-> _), \+ _, strip_module(_, _, _), context_module(_)]),
+    predicate_property(system:Goal, transparent),
+    !.
 
 %   The file imports a predicate of that name, and then its own clauses may be
 %   refused.
@@ -889,6 +902,7 @@ may_specialise(Predicate, Source, Closures) :-
     \+ memberchk(Predicate, Source.conditional),
     \+ memberchk(Predicate-_, Source.tabled),
     \+ imported_by_name(Source, Predicate),
+    \+ memberchk(Predicate, Source.transparent),
     forall(member(clause(_, Head, _), Real), takes_closures(Closures, Head)).
 
 takes_closures(Closures, Head) :-

@@ -26,6 +26,7 @@ A predicate is Module:Name/Arity. A source is a dict:
 | imports     | import(Path,Header,Selection), in order                     |
 | reexports   | those of them that it exports again                         |
 | arithmetic  | Name/Arity of the file's own functions in arithmetic        |
+| transparent | those whose goals run in the module of their callers        |
 | redefined   | the predicates that stand for built-in ones of their names  |
 | letters     | `yes` where the file may define letters of format/2         |
 | expansions  | expansion(Kind,Pattern): what the file rewrites when loaded |
@@ -521,6 +522,7 @@ declaration(table(Specs), tabled, Specs).
 declaration(meta_predicate(Specs), meta, Specs).
 declaration(arithmetic_function(Specs), arithmetic, Specs).
 declaration(redefine_system_predicate(Specs), redefined, Specs).
+declaration(module_transparent(Specs), transparent, Specs).
 
 declared(Kind, Specs, _, _) :-
     var(Specs),
@@ -583,6 +585,7 @@ declared_item(dynamic, Predicate, dynamic(Predicate)).
 declared_item(multifile, Predicate, multifile(Predicate)).
 declared_item(tabled, Predicate, tabled(Predicate, plain)).
 declared_item(arithmetic, _:PI, arithmetic(PI)).
+declared_item(transparent, Predicate, transparent(Predicate)).
 
 
 %   between_items(+Items, +Rest, ?Item): Item is in Items and before Rest,
@@ -700,6 +703,7 @@ source_of(Path, Items, Source) :-
     collected(P-H, member(meta(P, H), Items), Meta),
     collected(F, member(arithmetic(F), Items), Arithmetic),
     collected(P, member(redefined(P), Items), Redefined),
+    collected(P, member(transparent(P), Items), Transparent),
     findall(import(F, H, S), member(import(F, H, S), Items), Imports),
     findall(import(F, H, S), member(reexport(F, H, S), Items), Reexports),
     findall(P-clause(0, H, true), member(added(P, H), Asserted), Pairs2),
@@ -717,6 +721,7 @@ source_of(Path, Items, Source) :-
     Source = source{path:Path, module:Module, exports:Exports, clauses:Clauses, dynamic:Dynamic,
                     multifile:Multifile, conditional:Conditional, tabled:Tabled, meta:Meta,
                     imports:Imports, reexports:Reexports, arithmetic:Arithmetic, redefined:Redefined,
+                    transparent:Transparent,
                     expansions:Expansions, letters:Letters,
                     doubts:Doubts, adds:Adds}.
 

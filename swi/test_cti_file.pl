@@ -369,6 +369,12 @@ test(unknown_module) :-
     is_assumed("p(M) :- M:p(M).\n", p/1, goal).
 test(not_defined) :-
     is_assumed("p(X) :- q(X).\n", p/1, external(q/1)).
+test(transparent) :-
+    is_assumed(":- module(m, [p/1]).\n:- module_transparent p/1.\np(X) :- call(q(X)).\nq(_).\n:- begin_tests(u).\n\
+q(X) :- q(X).\ntest(a) :- p(a).\n:- end_tests(u).\n",
+               plunit_u:test/1, transparent).
+test(transparent_without_need, Doubts == []) :-
+    said(":- module(m, [p/1]).\n:- module_transparent p/1.\np(X) :- context_module(M), ( q(X, M) -> true ; fail ).\nq(_, _).\n", p/1, [[]], Doubts).
 test(other_file) :-
     is_assumed(":- use_module(no_such_file).\np(X) :- append(X, [a], X).\n", p/1, external(none:append/3)).
 test(plain_file) :-
