@@ -536,7 +536,7 @@ assumption_text(transparent, "it runs in the module of its caller: what it calls
 assumption_text(imported, "it is also imported by its name: the clauses read here are those that are called").
 assumption_text(adds, "clauses that the file adds to it, and that are not known, are facts").
 assumption_text(unread, "this clause could not be read: nothing depends on it").
-assumption_text(flags, "a flag for the reading of texts in quotes may change here: they are read as if it did not").
+assumption_text(flags, "a flag for the reading of what is in quotes may change here: it is read as if it did not").
 assumption_text(chr, "rules of CHR are not read: they end").
 assumption_text(dialect(Dialect), Text) :-
     format(string(Text), "the file is for ~w: it is as for SWI-Prolog", [Dialect]).

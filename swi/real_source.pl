@@ -110,8 +110,12 @@ read_one(In, State, Term, Line) :-
     line_count(In, Before),
     catch(( read_term(In, Term, Options),
             stream_position_data(line_count, Position, Line0) ),
-          error(syntax_error(_), _),
-          ( Term = '$unread', Line0 = Before )),
+          error(syntax_error(_), Place),
+          ( Term = '$unread',
+            (   nonvar(Place), ( Place = file(_, Line1, _, _) ; Place = stream(_, Line1, _, _) )
+            ->  Line0 = Line1
+            ;   Line0 = Before
+            ) )),
     (   State.included == no
     ->  Line = Line0
     ;   Line = State.included:Line0
@@ -415,7 +419,7 @@ changes_reading(Goal) :-
 may_run(Line, Goal, State0-Items, State-Rest) :-
     (   Goal = set_prolog_flag(Flag0, _)
     ->  strip_module(Flag0, M, Flag),
-        (   ( var(Flag) ; memberchk(Flag, [double_quotes, back_quotes]) ),
+        (   ( var(Flag) ; memberchk(Flag, [double_quotes, back_quotes, character_escapes]) ),
             \+ ( nonvar(Flag0), Flag0 = _:_, atom(M), M \== State0.module )
         ->  Items = [doubt(Line, flags)|Rest]
         ;   Items = Rest
@@ -462,6 +466,9 @@ obeyed(set_prolog_flag(Flag0, Value), Line, _, State0, State, Items, Rest) :-
     ->  Items = [doubt(Line, unread)|Rest]
     ;   Items = Rest
     ).
+obeyed(set_prolog_flag(Flag0, _), Line, _, State, State, [doubt(Line, flags)|Rest], Rest) :-
+    strip_module(Flag0, _, Flag),
+    Flag == character_escapes.
 obeyed(encoding(Encoding), _, In, State, State, Rest, Rest) :-
     set_stream(In, encoding(Encoding)).
 obeyed(expects_dialect(Dialect), Line, _, State, State, Items, Rest) :-

@@ -500,6 +500,8 @@ test(import_within_a_clause) :-
 test(flag_within_a_directive) :-
     is_assumed(":- catch(set_prolog_flag(double_quotes, codes), _, true).\np(X) :- X = \"ab\", q(X).\n\
 q([_|_]) :- q([a]).\nq(a).\n", p/1, flags).
+test(character_escapes) :-
+    is_assumed(":- set_prolog_flag(character_escapes, false).\np(X) :- q('\\', X), p(X).\nq('a', ').\np(_).\nr(').\n", p/1, flags).
 test(flag_within_a_clause) :-
     is_assumed("i :- set_prolog_flag(double_quotes, codes).\n:- i.\np(X) :- X = \"ab\", q(X).\n\
 q([_|_]) :- q([a]).\nq(a).\n", p/1, flags).
@@ -517,6 +519,11 @@ test(unknown_clause_by_closure) :-
     is_assumed(":- dynamic q/1.\nadd(C) :- maplist(assertz, C).\np(X) :- q(X).\n", p/1, adds).
 test(unread_clause) :-
     is_assumed("p(a).\nq q q.\n", p/1, unread).
+test(line_of_an_unread_clause, Lines == [3]) :-
+    setup("p(a).\n\nq q q.\n", File),
+    cti_file_modes(File, _, Assumptions),
+    delete_file(File),
+    findall(Line, member(assumed(Line, file, unread, _), Assumptions), Lines).
 test(chr) :-
     is_assumed(":- use_module(library(chr)).\n:- chr_constraint c/1.\nc(X) <=> c(X).\np(X) :- c(X).\n", p/1, external(c/1)).
 test(dialect) :-
