@@ -836,14 +836,23 @@ meta_specs(Predicate, Source, Args, Specs) :-
 
 passed_argument(Spec, Arg, Passed) :-
     (   is_meta(Spec)
-    ->  (   var(Arg)
-        ->  true
-        ;   ( Arg = _:_ ; Arg = '$closure'(_, _) )
-        ->  Passed = Arg
-        ;   Passed = c:Arg
-        )
+    ->  qualified_argument(Arg, Passed)
     ;   Passed = Arg
     ).
+
+qualified_argument(Arg, _) :-
+    var(Arg),
+    !.
+qualified_argument(M:Arg, Passed) :-
+    !,
+    (   nonvar(Arg), Arg \= _:_
+    ->  Passed = M:Arg
+    ;   nonvar(Arg), atom(M)            % only the last module stays
+    ->  qualified_argument(Arg, Passed)
+    ;   true
+    ).
+qualified_argument('$closure'(M, Arg), '$closure'(M, Arg)) :- !.
+qualified_argument(Arg, c:Arg).
 
 is_meta(Spec) :-
     nonvar(Spec),

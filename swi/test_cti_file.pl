@@ -123,6 +123,12 @@ test(qualified_argument) :-
     is_open(":- meta_predicate p(0).\np(_:G) :- r(G).\nr(G) :- r(G).\nq(X) :- p(foo), X = a.\n", q/1).
 test(qualified_variable) :-
     is_open(":- meta_predicate p(:).\np(_:G) :- r(G).\nr(G) :- r(G).\nq(X) :- p(X), X = a.\n", q/1).
+test(argument_qualified_twice) :-
+    is_open(":- meta_predicate p(:, ?).\np(b:f(G), H) :- app(H, G, [x, x, x]).\nw([_|T]) :- p(a:b:f([x, x]), H), app(H, T, L), w(L).\n\
+app([], L, L).\napp([H|T], L, [H|R]) :- app(T, L, R).\n", w/1).
+test(argument_qualified_later) :-
+    is_open(":- meta_predicate p(:, ?).\np(b:f(G), H) :- app(H, G, [x, x, x]).\n\
+w([_|T]) :- X = b:f([x, x]), p(a:X, H), app(H, T, L), w(L).\napp([], L, L).\napp([H|T], L, [H|R]) :- app(T, L, R).\n", w/1).
 test(context_of_a_call) :-
     is_open("p(X) :- @(p(X), user).\n", p/1).
 test(closure_in_predsort) :-
