@@ -395,33 +395,37 @@ found_within(Term, Line, State0, State, Items, Rest) :-
               changes_reading(Goal),
               \+ ( Term = clause(_), \+ names_what_it_changes(Goal) ) ),
             Goals),
-    foldl(may_run(Line), Goals, State0-Items, State-Rest).
+    foldl(may_run(Term, Line), Goals, State0-Items, State-Rest).
 
 names_what_it_changes(Goal) :-
     (   loading(Goal, Spec, _)
     ->  ground(Spec)
     ;   Goal = add_import_module(Module, _, _)
     ->  atom(Module)
-    ;   Goal = import(Spec)
-    ->  ground(Spec)
     ;   true
     ).
 
 changes_reading(Goal) :-
     compound(Goal),
     compound_name_arity(Goal, Name, Arity),
-    (   memberchk(Name/Arity, [op/3, set_prolog_flag/2, import/1, add_import_module/3, set_base_module/1])
+    (   memberchk(Name/Arity, [op/3, set_prolog_flag/2, add_import_module/3, set_base_module/1])
     ->  true
+    ;   Goal = import(Spec)
+    ->  ground(Spec),
+        Spec = _:_/_
     ;   Name \== '[|]',
         loading(Goal, _, _)
     ).
 
-may_run(Line, Goal, State0-Items, State-Rest) :-
+may_run(Term, Line, Goal, State0-Items, State-Rest) :-
     (   Goal = set_prolog_flag(Flag0, _)
     ->  strip_module(Flag0, M, Flag),
         (   ( var(Flag) ; memberchk(Flag, [double_quotes, back_quotes, character_escapes]) ),
             \+ ( nonvar(Flag0), Flag0 = _:_, atom(M), M \== State0.module )
-        ->  Items = [doubt(Line, flags)|Rest]
+        ->  (   Term = clause(_)
+            ->  Items = [flags_by_call(Line)|Rest]
+            ;   Items = [doubt(Line, flags)|Rest]
+            )
         ;   Items = Rest
         ),
         State = State0
@@ -718,9 +722,10 @@ source_of(Path, Items, Source) :-
     findall(expansion(K, T), expansion_of(Expanding, Module, K, T), Expansions),
     findall(doubt(L, D), member(doubt(L, D), Items), Doubts0),
     findall(doubt(L, D), rewritten_clause(Items, Expansions, L, D), Doubts1),
+    findall(doubt(L, flags), flags_by_call(Items, Clauses, L), Doubts2),
     findall(doubt(L, asserts), member(unknown_assert(L), Asserted), Adds0),
     sort(Adds0, Adds),
-    append(Doubts0, Doubts1, Doubts),
+    append([Doubts0, Doubts1, Doubts2], Doubts),
     (   member(raw(_, Raw), Items), has_atom(Raw, format_predicate)
     ->  Letters = yes
     ;   Letters = no
@@ -772,6 +777,30 @@ expansion_of(Pairs, Module, Kind, Pattern) :-
 
 expansion_kind(term_expansion, term).
 expansion_kind(goal_expansion, goal).
+
+%   Flags that a clause sets, if a directive may call one of the clauses.
+
+flags_by_call(Items, Clauses, Line) :-
+    memberchk(flags_by_call(_), Items),
+    once(( member(directive(_, M, Directive), Items),
+           runs_goals(Directive),
+           sub_term(Goal, Directive),
+           callable(Goal),
+           \+ ( compound(Goal), compound_name_arity(Goal, _, 0) ),
+           functor(Goal, Name, Arity),
+           get_assoc(M:Name/Arity, Clauses, _) )),
+    member(flags_by_call(Line), Items).
+
+runs_goals(Directive) :-
+    \+ declaration(Directive, _, _),
+    \+ loading(Directive, _, _),
+    (   compound(Directive)
+    ->  compound_name_arity(Directive, Name, _)
+    ;   Name = Directive
+    ),
+    \+ ( Name == (initialization), Directive \= initialization(_, now) ),
+    \+ memberchk(Name, [module, discontiguous, public, volatile, det, op, set_prolog_flag, create_prolog_flag,
+                        predicate_options, noprofile, '$hide', non_terminal]).
 
 rewritten_clause(Items, Expansions, Line, rewritten) :-
     member(raw(Line, Term), Items),

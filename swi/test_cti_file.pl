@@ -530,6 +530,10 @@ test(line_of_an_unread_clause, Lines == [3]) :-
     cti_file_modes(File, _, Assumptions),
     delete_file(File),
     findall(Line, member(assumed(Line, file, unread, _), Assumptions), Lines).
+test(flag_within_a_clause_that_no_directive_calls, Doubts == []) :-
+    said("i :- set_prolog_flag(double_quotes, codes).\n:- initialization(i).\np(_).\n", p/1, [[]], Doubts).
+test(flag_within_a_clause_called_now) :-
+    is_assumed("i :- set_prolog_flag(double_quotes, codes).\n:- initialization(i, now).\np(_).\n", p/1, flags).
 test(chr) :-
     is_assumed(":- use_module(library(chr)).\n:- chr_constraint c/1.\nc(X) <=> c(X).\np(X) :- c(X).\n", p/1, external(c/1)).
 test(dialect) :-
