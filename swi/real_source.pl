@@ -440,8 +440,7 @@ may_run(Term, Line, Goal, State0-Items, State-Rest) :-
 obeyed_in(Directive, M, _, _, State, State, Items, Rest) :-
     declaration(Directive, Kind, Specs),
     !,
-    findall(Item, declared(Kind, Specs, M, Item), Declared),
-    append(Declared, Rest, Items).
+    declared_items(Kind, Specs, M, State, Items, Rest).
 obeyed_in(Directive, _, Line, In, State0, State, Items, Rest) :-
     obeyed(Directive, Line, In, State0, State, Items, Rest).
 
@@ -518,8 +517,19 @@ obeyed(Directive, Line, _, State0, State, Items, Rest) :-
     ).
 obeyed(Directive, _, _, State, State, Items, Rest) :-
     declaration(Directive, Kind, Specs),
-    findall(Item, declared(Kind, Specs, State.module, Item), Declared),
-    append(Declared, Rest, Items).
+    declared_items(Kind, Specs, State.module, State, Items, Rest).
+
+%   Where it is not known whether a declaration is loaded, what it changes is
+%   conditional.
+
+declared_items(Kind, Specs, Module, State, Items, Rest) :-
+    findall(Item, declared(Kind, Specs, Module, Item), Declared),
+    (   memberchk(maybe, State.conditions)
+    ->  findall(conditional(P), ( member(meta(P, _), Declared) ; member(redefined(P), Declared) ), Conditional)
+    ;   Conditional = []
+    ),
+    append(Declared, More, Items),
+    append(Conditional, Rest, More).
 
 declare_operators(Exports, Scratch) :-
     forall(( member(op(P, T, N), Exports), ground(op(P, T, N)) ),

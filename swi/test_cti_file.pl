@@ -488,6 +488,10 @@ test(multifile) :-
     is_assumed(":- multifile q/1.\nq(a).\np(X) :- q(X).\n", p/1, multifile).
 test(undecided_condition) :-
     is_assumed(":- if(my_condition).\nappend(_, _, _).\n:- endif.\np(X) :- append(_, X, _).\n", p/1, conditional).
+test(undecided_declaration) :-
+    is_assumed(":- if(my_condition).\n:- meta_predicate p(:, ?).\n:- endif.\np(b:_, []).\np(f(_), [a]).\n\
+w([_|T]) :- p(f(x), H), app(H, T, L), w(L).\napp([], L, L).\napp([H|T], L, [H|R]) :- app(T, L, R).\n",
+               w/1, conditional).
 test(condition_on_a_flag_that_the_file_makes) :-
     is_assumed(":- create_prolog_flag(mine, true, []).\n:- if(current_prolog_flag(mine, true)).\np(X) :- p(X).\n:- else.\np(a).\n:- endif.\n",
                p/1, conditional).
