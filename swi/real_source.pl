@@ -387,19 +387,24 @@ directive(Directive, Line, In, State0, State,
 %   found_within(+Term, +Line, +State0, -State, -Items, ?Rest): the goals in
 %   a directive or a clause that change how the text is read, or what it
 %   imports, if they run while the file is loaded. What a clause loads and
-%   does not name is assumed of that goal.
+%   does not name, or is not there, is assumed of that goal.
 
 found_within(Term, Line, State0, State, Items, Rest) :-
     findall(Goal,
             ( sub_term(Goal, Term),
               changes_reading(Goal),
-              \+ ( Term = clause(_), \+ names_what_it_changes(Goal) ) ),
+              \+ ( Term = clause(_), \+ names_what_it_changes(Goal, State0) ) ),
             Goals),
     foldl(may_run(Term, Line), Goals, State0-Items, State-Rest).
 
-names_what_it_changes(Goal) :-
+names_what_it_changes(Goal, State) :-
     (   loading(Goal, Spec, _)
-    ->  ground(Spec)
+    ->  ground(Spec),
+        (   is_list(Spec)
+        ->  true
+        ;   strip_module(Spec, _, Plain),
+            catch(relative_file(Plain, State.path, _), _, fail)
+        )
     ;   Goal = add_import_module(Module, _, _)
     ->  atom(Module)
     ;   true
@@ -410,11 +415,12 @@ changes_reading(Goal) :-
     compound_name_arity(Goal, Name, Arity),
     (   memberchk(Name/Arity, [op/3, set_prolog_flag/2, add_import_module/3, set_base_module/1])
     ->  true
-    ;   Goal = import(Spec)
-    ->  ground(Spec),
-        Spec = _:_/_
+    ;   Goal = import(Import)
+    ->  ground(Import),
+        Import = _:_/_
     ;   Name \== '[|]',
-        loading(Goal, _, _)
+        loading(Goal, Spec, _),
+        \+ ( Name == autoload, atom(Spec) )        % an option
     ).
 
 may_run(Term, Line, Goal, State0-Items, State-Rest) :-

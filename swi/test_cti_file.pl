@@ -506,7 +506,12 @@ test(import_with_a_module) :-
 test(import_within_a_directive) :-
     is_assumed(":- catch(use_module(no_such_file), _, true).\np(X) :- append(X, [a], X).\n", p/1, external(none:append/3)).
 test(import_within_a_clause) :-
-    is_assumed("p(X) :- use_module(no_such_file), append(X, [a], X).\n", p/1, external(none:append/3)).
+    tmp_file(plain, Base),
+    file_name_extension(Base, pl, File),
+    setup_call_cleanup(open(File, write, Out), write(Out, "append(X, Y, Z) :- append(X, Y, Z).\n"), close(Out)),
+    format(string(Text), "p(X) :- ensure_loaded('~w'), append(X, [a], X).\n", [File]),
+    is_assumed(Text, p/1, external(none:append/3)),
+    delete_file(File).
 test(flag_within_a_directive) :-
     is_assumed(":- catch(set_prolog_flag(double_quotes, codes), _, true).\np(X) :- X = \"ab\", q(X).\n\
 q([_|_]) :- q([a]).\nq(a).\n", p/1, flags).
