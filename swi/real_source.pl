@@ -391,7 +391,8 @@ directive(Directive, Line, In, State0, State,
 
 found_within(Term, Line, State0, State, Items, Rest) :-
     findall(Goal,
-            ( sub_term(Goal, Term),
+            ( \+ Term = predicate_options(_, _, _),
+              sub_term(Goal, Term),
               changes_reading(Goal),
               \+ ( Term = clause(_), \+ names_what_it_changes(Goal, State0) ) ),
             Goals),
