@@ -39,6 +39,7 @@ A predicate is Module:Name/Arity. A source is a dict:
 :- use_module(library(lists)).
 :- use_module(library(occurs)).
 :- use_module(library(pairs)).
+:- use_module(library(yall)).
 
 :- dynamic kept_header/2.
 
@@ -135,6 +136,14 @@ item(_, _, _, State, State, Items, Items) :-
     is_skipped(State.conditions),
     !.
 item('$unread', Line, _, State, State, [doubt(Line, unread)|Items], Items) :- !.
+item([Term|Terms], Line, In, State0, State, Items, Rest) :-
+    !,                                  % a list of clauses, as they are
+    (   is_list(Terms)
+    ->  foldl([One, S0-I0, S-I]>>item(One, Line, In, S0, S, I0, I), [Term|Terms], State0-Items, State-Rest)
+    ;   State = State0,
+        Items = [doubt(Line, unread)|Rest]
+    ).
+item([], _, _, State, State, Items, Items) :- !.
 item((:- Directive), Line, In, State0, State, Items, Rest) :-
     !,
     directive(Directive, Line, In, State0, State, Items, Rest).
@@ -562,6 +571,11 @@ declared(Kind, (A, B), Module, Item) :-
     ;   declared(Kind, B, Module, Item)
     ).
 declared(_, [], _, _) :-
+    !,
+    fail.
+declared(_, Spec, _, _) :-
+    compound(Spec),
+    compound_name_arity(Spec, _, 0),
     !,
     fail.
 declared(Kind, [A|B], Module, Item) :-

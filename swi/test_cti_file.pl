@@ -198,6 +198,10 @@ test(goal_of_zero_arguments) :-
     is_open("p(X) :- q(), X = a.\nq :- G = 1, call(q()), G = 1.\n", p/1).
 test(number_of_zero_arguments, Sets == [[]]) :-
     said("p(X) :- X is random().\n", p/1, Sets, []).
+test(list_of_clauses) :-
+    is_open("p(a).\n[(p(X) :- p(X)), q(b)].\n", p/1).
+test(declaration_of_zero_arguments, Sets == [[]]) :-
+    said(":- meta_predicate f().\n:- foo().\np(a).\n", p/1, Sets, []).
 test(names) :-
     is_open("'it''s \\\\ é'(X) :- '='(X).\n'='(X) :- 'it''s \\\\ é'(X).\np(X) :- '='(X).\n", p/1).
 test(kept_names) :-
