@@ -139,7 +139,8 @@ item('$unread', Line, _, State, State, [doubt(Line, unread)|Items], Items) :- !.
 item([Term|Terms], Line, In, State0, State, Items, Rest) :-
     !,                                  % a list of clauses, as they are
     (   is_list(Terms)
-    ->  foldl([One, S0-I0, S-I]>>item(One, Line, In, S0, S, I0, I), [Term|Terms], State0-Items, State-Rest)
+    ->  Items = [raw(Line, [Term|Terms])|More],
+        foldl([One, S0-I0, S-I]>>item(One, Line, In, S0, S, I0, I), [Term|Terms], State0-More, State-Rest)
     ;   State = State0,
         Items = [doubt(Line, unread)|Rest]
     ).
@@ -801,9 +802,9 @@ expansion_of(Pairs, Module, Kind, Pattern) :-
     memberchk(M, [user, system, Module]),
     expansion_kind(Name, Kind),
     arg(1, Head, Pattern0),
-    (   nonvar(Pattern0), Pattern0 = _:Pattern1
-    ->  Pattern = Pattern1
-    ;   Pattern = Pattern0
+    (   Pattern = Pattern0
+    ;   nonvar(Pattern0),
+        Pattern0 = _:Pattern
     ).
 
 expansion_kind(term_expansion, term).

@@ -484,6 +484,10 @@ test(goal_expansion_is_not_of_facts, Doubts == []) :-
     said("goal_expansion(X, X).\np(a).\n", p/1, [[]], Doubts).
 test(term_expansion) :-
     is_assumed("term_expansion(p(X), (p(X) :- p(X))).\np(_).\n", p/1, rewritten).
+test(term_expansion_with_a_module) :-
+    is_assumed(":- module(m, []).\nuser:term_expansion(m:p(X), (p(X) :- p(X))).\nm:p(a).\n", p/1, rewritten).
+test(term_expansion_of_a_list) :-
+    is_assumed("term_expansion([X], (X :- X)).\np(b).\n[p(a)].\n", p/1, rewritten).
 test(expansion_of_the_end) :-
     is_assumed("term_expansion(end_of_file, [(p(X) :- p(X)), end_of_file]).\np(a).\n", p/1, rewritten).
 test(directive_expansion) :-
