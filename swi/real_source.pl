@@ -499,8 +499,8 @@ obeyed(expects_dialect(Dialect), Line, _, State, State, Items, Rest) :-
 obeyed(include(Spec), Line, _, State0, State, Items, Rest) :-
     (   catch(relative_file(Spec, State0.path, Path), _, fail)
     ->  file_base_name(Path, Base),
-        read_text(Path, State0.put(included, Base), State1, Items, Rest),
-        State = State1.put(included, State0.included)
+        read_text(Path, State0.put(_{included:Base, path:Path}), State1, Items, Rest),
+        State = State1.put(_{included:State0.included, path:State0.path})
     ;   State = State0,
         Items = [doubt(Line, include(Spec))|Rest]
     ).

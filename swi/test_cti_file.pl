@@ -357,6 +357,19 @@ test(included_file) :-
     format(string(Text), ":- include('~w').\nq(X) :- p(X).\n", [File]),
     is_open(Text, q/1),
     delete_file(File).
+test(file_that_an_included_file_includes) :-
+    tmp_file(directory, Directory),
+    make_directory(Directory),
+    directory_file_path(Directory, sub, Sub),
+    make_directory(Sub),
+    forall(member(Name-Text, [main-":- include('sub/a').\n", x-"p(a).\n", 'sub/a'-":- include(x).\n", 'sub/x'-"p(X) :- p(X).\n"]),
+           ( directory_file_path(Directory, Name, Base),
+             file_name_extension(Base, pl, File),
+             setup_call_cleanup(open(File, write, Out), write(Out, Text), close(Out)) )),
+    directory_file_path(Directory, 'main.pl', Main),
+    cti_file_modes(Main, Modes, _),
+    delete_directory_and_contents(Directory),
+    Modes == [p/1-[]].
 test(flags_of_an_included_file) :-
     tmp_file(included, Base),
     file_name_extension(Base, pl, File),
