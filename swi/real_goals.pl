@@ -295,7 +295,7 @@ rewritten_goal(G, Context) -->
 numbers_after(G, Context0, Context) :-
     (   nonvar(G), number_result(G, V), var(V), is_kept(G, Context0)
     ->  Context = Context0.put(numbers, [V|Context0.numbers])
-    ;   nonvar(G), G = must_be(Type, V), var(V),
+    ;   nonvar(G), G = must_be(Type, V), var(V), nonvar(Type),
         memberchk(Type, [integer, nonneg, positive_integer]),
         resolved(G, Context0, Where),
         memberchk(Where, [library(error), library(error, _)])

@@ -273,6 +273,9 @@ test(hook_of_libraries) :-
 p(X) :- absolute_file_name(library(X), _, []).\n", p/1).
 test(no_hooks, Doubts == []) :-
     said("p(X) :- debug(a, \"~w\", [X]), portray_clause(X), read_line_to_string(user_input, _).\n", p/1, [[]], Doubts).
+test(type_that_is_not_known) :-
+    is_open("p(T, X, [x]) :- must_be(T, X), X = [_].\nw([_|T]) :- p(list(any), [a], H), app(H, T, L), w(L).\n\
+app([], L, L).\napp([H|T], L, [H|R]) :- app(T, L, R).\n", w/1).
 test(hook_of_types) :-
     is_open(":- module(m, []).\n:- multifile error:has_type/2.\nerror:has_type(t, X) :- p(X).\np(X) :- must_be(t, X).\n", p/1).
 test(decided_condition) :-
@@ -461,6 +464,8 @@ test(computed_bound, Doubts == []) :-
     said("p(H) :- N is H + 1, between(1, N, _), fail.\n", p/1, [[]], Doubts).
 test(own_must_be) :-
     is_assumed("must_be(_, _).\np(H) :- must_be(integer, H), between(1, H, _), fail.\n", p/1, bound).
+test(bound_of_a_type_that_is_not_known) :-
+    is_assumed("p(T, H) :- must_be(T, H), between(1, H, _), fail.\n", p/2, bound).
 test(bound_in_a_branch) :-
     is_assumed("p(H) :- ( a = b -> H is 3 ; true ), between(1, H, _), fail.\n", p/1, bound).
 test(text) :-
