@@ -1,6 +1,6 @@
 #!/usr/bin/env bash
 # Times `cti infer`, outside the gate: 1 MB of facts (long ones, and of different names) and half as much, quicksort, generated programs
-# of 150 and 300 predicates, a chain of 3,000 predicates and rings of 300 and 1,000 in a shuffled order, a machine of 30 states, a clause
+# of 150 and 300 predicates, a chain of 3,000 predicates and rings of 300 and 1,000 in a shuffled order, a machine of 100 states, a clause
 # of 48 variables, 8 predicates that call each other at random, and facts whose arguments have sizes that differ at random; and
 # `cti check` on the certificates of the generated ones.
 # Usage: bench/infer.sh [PROGRAM]     (PROGRAM is bin/cti where none is named)
@@ -110,7 +110,7 @@ write("chain", shuffled([f"p{n}(X,Y,Z) :- p{n + 1}(X,Y,Z)." for n in range(2999)
 for count in (300, 1000):
     ring = [f"p{n}(X) :- p{n + 1}(X)." for n in range(count - 1)] + [f"p{count - 1}(s(X)) :- p0(X)."]
     write(f"ring_{count}", shuffled(ring))
-write("states_30", states(30))
+write("states_100", states(100))
 groups = [",".join(f"X{12 * g + k}" for k in range(1, 13)) for g in range(4)]
 write(
     "wide",
@@ -121,7 +121,7 @@ write(
 PYTHON
 
 for name in long_half long different_half different quicksort generated_150 generated_300 chain ring_300 ring_1000 \
-    states_30 wide calls_8_3 points_80_3_9 points_20_4_9 points_100_4_9 points_9_5_9 points_14_5_9 points_30_5_9 \
+    states_100 wide calls_8_3 points_80_3_9 points_20_4_9 points_100_4_9 points_9_5_9 points_14_5_9 points_30_5_9 \
     points_60_5_9 points_80_5_9 points_100_5_9 points_20_6_9 points_40_3_99; do
     python3 bench/timed.py "$folder/$name.pl" "$program" infer "$folder/$name.pl"
 done
