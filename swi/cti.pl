@@ -289,8 +289,19 @@ absolute_path(File, Path) :-
 program(Program) :-
     getenv('CTI', Path),
     !,
-    absolute_path(Path, Program).
-program(path(cti)).
+    absolute_path(Path, Program),
+    (   access_file(Program, execute)
+    ->  true
+    ;   no_program(Path, 'the environment variable CTI names it')
+    ).
+program(Program) :-
+    (   absolute_file_name(path(cti), Program, [access(execute), file_errors(fail)])
+    ->  true
+    ;   no_program(cti, 'it is not on the path, and the environment variable CTI names no other one')
+    ).
+
+no_program(Name, Why) :-
+    throw(error(existence_error(program, Name), context(_, Why))).
 
 %   The program writes its whole answer before the message, which is short,
 %   so reading one after the other never blocks it.

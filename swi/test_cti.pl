@@ -26,6 +26,11 @@ test(facts_of_a_norm, Facts == [cti(2), norm(list)]) :-
     cti_certificate('examples/append.pl', [First, Second|_], [norm(list)]),
     Facts = [First, Second].
 
+test(no_program, [setup(getenv('CTI', Program)), cleanup(setenv('CTI', Program)),
+                  error(existence_error(program, '/nonexistent'))]) :-
+    setenv('CTI', '/nonexistent'),
+    cti_modes('examples/append.pl', _).
+
 test(facts, Fact == cti(1)) :-
     cti_certificate('examples/append.pl', [Fact|_]).
 
