@@ -229,7 +229,7 @@ fn notes_of(
     let mut chain = Sequence::new(alloc);
     note_chain(alloc, described.p, described.names, steps, &mut chain)?;
     let mut notes = Sequence::new(alloc);
-    push_all_noted(alloc, chain.as_slice(), &mut notes)?;
+    push_all_noted(alloc, chain, &mut notes)?;
     described.note_components(alloc, found, &mut notes)?;
     Ok(notes)
 }

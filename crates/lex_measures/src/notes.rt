@@ -15,34 +15,22 @@ use lex_certificate::LexFact;
 use lex_turns::FoundLists;
 use sequences::Sequence;
 use std::alloc::{AllocError, Global};
+use std::mem;
 
-/// A copy of a predicate's text.
-fn copied_text(alloc: Global, pred: &PredText) -> Result<PredText, AllocError>
-    ensures { IfOk result (λ copy. copy ≡ pred.now) }
+/// The text of a predicate, which is moved out of its place.
+fn taken_text(alloc: Global, pred: &mut PredText) -> PredText
+    ensures { result ≡ pred.old }
 {
-    Ok(PredText {
-        name: pred.name.copy(alloc)?,
-        arity: pred.arity,
-    })
+    let nameless = PredText {
+        name: Sequence::new(alloc),
+        arity: 0,
+    };
+    mem::replace(pred, nameless)
 }
 
-/// A copy of rows.
-fn copied_rows(
-    alloc: Global,
-    rows: &[Sequence<i128>],
-) -> Result<Sequence<Sequence<i128>>, AllocError>
-    ensures { IfOk result (λ copy. copy ≡ rows.now) }
-{
-    let mut copy = Sequence::new(alloc);
-    for row in rows {
-        copy.push(row.copy(alloc)?)?;
-    }
-    Ok(copy)
-}
-
-/// Puts a note of a chain after others.
-fn push_noted(alloc: Global, note: &Fact, out: &mut Sequence<LexFact>) -> Result<(), AllocError>
-    ensures { OnOk result (out.new ≡ out.old ++ noted note.now) }
+/// Moves a note of a chain after others.
+fn push_noted(alloc: Global, note: &mut Fact, out: &mut Sequence<LexFact>) -> Result<(), AllocError>
+    ensures { OnOk result (out.new ≡ out.old ++ noted note.old) }
 {
     match note {
         Fact::Image {
@@ -53,8 +41,8 @@ fn push_noted(alloc: Global, note: &Fact, out: &mut Sequence<LexFact>) -> Result
         } => out.push(LexFact::Image {
             step: *step,
             clause: *clause,
-            pred: copied_text(alloc, pred)?,
-            rows: copied_rows(alloc, rows.as_slice())?,
+            pred: taken_text(alloc, pred),
+            rows: mem::replace(rows, Sequence::new(alloc)),
         }),
         Fact::Step {
             step,
@@ -63,9 +51,9 @@ fn push_noted(alloc: Global, note: &Fact, out: &mut Sequence<LexFact>) -> Result
             rows,
         } => out.push(LexFact::Step {
             step: *step,
-            pred: copied_text(alloc, pred)?,
+            pred: taken_text(alloc, pred),
             how: *how,
-            rows: copied_rows(alloc, rows.as_slice())?,
+            rows: mem::replace(rows, Sequence::new(alloc)),
         }),
         Fact::WeakImage { step } => out.push(LexFact::WeakImage { step: *step }),
         Fact::WeakStep { step } => out.push(LexFact::WeakStep { step: *step }),
@@ -73,16 +61,16 @@ fn push_noted(alloc: Global, note: &Fact, out: &mut Sequence<LexFact>) -> Result
     }
 }
 
-/// Puts the notes of a chain after others.
+/// Moves the notes of a chain after others.
 pub(crate) fn push_all_noted(
     alloc: Global,
-    notes: &[Fact],
+    notes: Sequence<Fact>,
     out: &mut Sequence<LexFact>,
 ) -> Result<(), AllocError>
-    ensures { OnOk result (out.new ≡ out.old ++ flat_map noted notes.now) }
+    ensures { OnOk result (out.new ≡ out.old ++ flat_map noted notes) }
 {
-    for note in notes {
-        push_noted(alloc, note, out)?;
+    for mut note in notes.into_vec() {
+        push_noted(alloc, &mut note, out)?;
     }
     Ok(())
 }
