@@ -1,4 +1,3 @@
-pub mod ClauseLaws
 pub mod ComponentLaws
 pub mod Examples
 pub mod MarkLaws

@@ -9,7 +9,7 @@ use bool_diagrams::{Diagram, Table};
 use cti_terms::Clause;
 use std::alloc::AllocError;
 use term_size::Norm;
-use truth_rows::{head_reaching_rows, rows_of_head};
+use truth_rows::rows_of_clause;
 
 /// The rows of the head of a clause where those of its body are in the sets of their predicates.
 pub(crate) fn clause_rows<N: Norm>(
@@ -25,7 +25,6 @@ pub(crate) fn clause_rows<N: Norm>(
         → IsTrue (holds table.new d row)
         ↔ Gives (N.truth norm.now) table.old sets.now clause.now row) }
 {
-    let body = head_reaching_rows(norm, table, sets, clause)?;
-    let rows = rows_of_head(norm, table, body, &clause.head.args, clause.vars)?;
+    let rows = rows_of_clause(norm, table, sets, clause)?;
     Ok(rows)
 }

@@ -6,7 +6,7 @@ use Rattle.std.proofs.lemmas.List.Elements.{All-contains_itself}
 use Rattle.bool_diagrams.specs.Tree.{with_value}
 use Rattle.cti_terms.specs.Tree.{Tree}
 use Rattle.term_size.specs.Norm.{ListsRigid}
-use Rattle.truth_rows.specs.Ends.{Agree, IsAsked, IsTold, SaysAsked}
+use Rattle.truth_rows.specs.Ends.{Agree, IsAsked, IsPlacedOrTold, IsTold, SaysAsked}
 use Rattle.truth_rows.proofs.ListLaws.{set_elsewhere, set_there}
 use Rattle.termination_model.proofs.Lists.{place_below}
 use Rattle.truth_rows.proofs.RowLaws.{both, same_bool, with_other, with_same}
@@ -49,6 +49,10 @@ told_more truth old new n t more told v w agree = told v w (λ x asked. agree x 
 pub all_told_more : (truth : (ℕ → Bool) → Tree → Bool) (old new : List ℕ) (n : ℕ) (ts : List Tree) → ((x : ℕ) → IsAsked old n x → IsAsked new n x) → AllByRecursion (IsTold truth old n) ts → AllByRecursion (IsTold truth new n) ts
 all_told_more truth old new n [] more told = tt
 all_told_more truth old new n (t ∷ ts) more told = (told_more truth old new n t more told.0, all_told_more truth old new n ts more told.1)
+
+pub placed_more : (truth : (ℕ → Bool) → Tree → Bool) (old new : List ℕ) (end : ℕ) (row : ℕ → Bool) (j : ℕ) (t : Tree) → ((n x : ℕ) → IsAsked old n x → IsAsked new n x) → IsPlacedOrTold truth old end row j t → IsPlacedOrTold truth new end row j t
+placed_more truth old new end row j t more (inl e) = inl e
+placed_more truth old new end row j t more (inr told) = inr (λ n less. told_more truth old new n t (more n) (told n less))
 
 pub row_told : (truth : (ℕ → Bool) → Tree → Bool) (ends : List ℕ) (n : ℕ) (ts : List Tree) → AllByRecursion (IsTold truth ends n) ts → (v w : ℕ → Bool) → Agree ends n v w → map (truth v) ts ≡ map (truth w) ts
 row_told truth ends n [] told v w agree = refl

@@ -3,6 +3,7 @@ pub mod AtomLaws
 pub mod CallerLemmas
 pub mod CellLaws
 pub mod ClaimLaws
+pub mod ClauseLaws
 pub mod CoverLaws
 pub mod EndLaws
 pub mod Examples

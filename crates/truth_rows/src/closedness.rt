@@ -7,8 +7,7 @@ ghost use Rattle.bool_diagrams.specs.Rows.{Keeps};
 ghost use Rattle.cti_terms.specs.declared.clauses.Clause.{Clause};
 ghost use Rattle.termination_model.specs.grounds.Grounds.{IsClosedUnder};
 
-use crate::atoms::atom_rows;
-use crate::bodies::head_reaching_rows;
+use crate::clause_rows::rows_of_clause;
 use crate::inside::is_inside;
 use bool_diagrams::{Diagram, Table};
 use cti_terms::{Clause, Program};
@@ -53,7 +52,6 @@ fn head_follows<N: Norm>(
         (length clause.now.body)
         → HasAtom (N.truth norm.now) table.old sets.now v clause.now.head)) }
 {
-    let body = head_reaching_rows(norm, table, sets, clause)?;
-    let head = atom_rows(norm, table, sets, &clause.head, clause.vars)?;
-    is_inside(table, body, head)
+    let given = rows_of_clause(norm, table, sets, clause)?;
+    is_inside(table, given, sets[clause.head.pred.0 as usize])
 }

@@ -37,7 +37,7 @@ pub fn put_off<N: Norm>(norm: &N, ends: &mut [usize], end: usize, t: &Term, vars
 }
 
 /// Puts off the ends of the variables of several terms to a place at least.
-pub fn put_all_off<N: Norm>(norm: &N, ends: &mut [usize], end: usize, terms: &Terms, vars: u32)
+fn put_all_off<N: Norm>(norm: &N, ends: &mut [usize], end: usize, terms: &Terms, vars: u32)
     requires few { vars ≤ MOST_VARIABLES }
     requires below { AllByRecursion (λ t. IsTrue (is_below vars t)) terms.now }
     requires small { sum_by nodes_of terms.now ≤ MOST_NODES }

@@ -4,7 +4,7 @@ ghost use Rattle.std.specs.Prelude.{◌≡◌, ◌↔◌, ◌≤◌, ◌<◌, �
 ghost use Rattle.std.specs.List.{AllByRecursion};
 ghost use Rattle.bool_diagrams.specs.Rows.{IsDiagram, Keeps, holds};
 ghost use Rattle.cti_terms.specs.Tree.{Tree, is_below, nodes_of};
-ghost use Rattle.truth_rows.specs.Ends.{HasAllLike, IsTold};
+ghost use Rattle.truth_rows.specs.Ends.{IsTold};
 ghost use Rattle.truth_rows.specs.Ready.{HasTruths};
 
 use crate::atoms::{ARGUMENTS, PLACES};
@@ -15,7 +15,8 @@ use cti_terms::{MOST_ARGUMENTS, MOST_NODES, MOST_VARIABLES, Terms};
 use std::alloc::AllocError;
 use term_size::Norm;
 
-/// The truth rows of arguments over the given number of variables, where the values of the variables are in a set.
+/// The truth rows of arguments over the given number of variables, where the values of the variables are in a set. The
+/// set may say of some arguments in the variables of places which are rigid, as `place_head` does.
 ///
 /// What the set says of further variables does not matter where it says the same of all their values.
 pub fn rows_of_head<N: Norm>(
@@ -32,11 +33,15 @@ pub fn rows_of_head<N: Norm>(
     requires small { sum_by nodes_of arguments.now ≤ MOST_NODES }
     ensures keeps { Keeps table.old table.new }
     ensures known { IfOk result (IsDiagram table.new) }
-    ensures all { IfOk result (λ d. (v row : ℕ → Bool) → HasAllLike vars v (holds table.old values)
+    ensures all { IfOk result (λ d. (v row : ℕ → Bool)
+        → ((w : ℕ → Bool) → ((x : ℕ) → x < vars → w x ≡ v x)
+        → ((j : ℕ) → j < length arguments.now → w (48 + j) ≡ row j)
+        → IsTrue (holds table.old values w))
         → HasTruths (N.truth norm.now) v row arguments.now (length arguments.now)
         → IsTrue (holds table.new d row)) }
     ensures some { IfOk result (λ d. (row : ℕ → Bool) → IsTrue (holds table.new d row)
-        → (v : ℕ → Bool) × IsTrue (holds table.old values v)
+        → (v : ℕ → Bool) × ((j : ℕ) → j < length arguments.now → v (48 + j) ≡ row j)
+        × IsTrue (holds table.old values v)
         × HasTruths (N.truth norm.now) v row arguments.now (length arguments.now)) }
 {
     let bound = bound_head(norm, table, values, arguments, vars)?;

@@ -8,7 +8,7 @@
 #![tactic(auto)]
 
 mod atoms;
-mod bodies;
+mod clause_rows;
 mod closedness;
 mod covering;
 mod ends;
@@ -16,18 +16,20 @@ mod head_rows;
 mod inside;
 mod of_cubes;
 mod of_modes;
+mod placing;
 mod rigidity;
 mod rules;
 mod upper;
 
 pub use atoms::{argument_rows, atom_rows};
-pub use bodies::head_reaching_rows;
+pub use clause_rows::rows_of_clause;
 pub use closedness::is_closed_under;
 pub use covering::is_covered;
-pub use ends::{put_all_off, put_body_off, without_ended};
+pub use ends::{put_body_off, without_ended};
 pub use head_rows::rows_of_head;
 pub use inside::is_inside;
 pub use of_cubes::cube_rows;
 pub use of_modes::admits;
+pub use placing::place_head;
 pub use rules::ClauseRule;
 pub use upper::{upper_rows, upward_union};
