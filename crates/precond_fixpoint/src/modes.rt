@@ -85,7 +85,7 @@ pub fn minimal_modes(
     Ok(own)
 }
 
-/// The same of these lists, which are all there are.
+/// The modes of a set, found among all lists of arguments up to the arity, which are given.
 fn modes_among(
     alloc: Global,
     table: &Table,

@@ -26,10 +26,11 @@ fn row_of_mode(mode: &[u32], arity: u32) -> u64
     ensures { (i : ℕ) → i < arity → bit_of result i ≡ list_any (λ j. j == i + 1) mode.now }
 {
     let mut row = 0_u64;
-    for argument in 0..arity {
-        if mode.contains(&(argument + 1)) {
-            row |= 1 << argument;
+    for argument in mode {
+        if *argument == 0 || *argument > arity {
+            continue;
         }
+        row |= 1 << (*argument - 1);
     }
     row
 }
