@@ -8,7 +8,7 @@ use Rattle.cti_terms.specs.declared.clauses.Clause.{Clause}
 use Rattle.cti_terms.specs.declared.predicates.PredId.{PredId}
 use Rattle.linear_rows.specs.Members.{In}
 use Rattle.linear_rows.proofs.Members.{in-map, of-map}
-use Rattle.numeric_model.specs.Running.{paired, with_clauses}
+use Rattle.component_clauses.specs.Numbered.{paired, with_clauses}
 use Rattle.termination_model.specs.chains.Chain.{clauses_of, component_of, is_number}
 use Rattle.termination_model.specs.mappings.ComponentViews.{members_in, positions_in}
 use Rattle.termination_model.specs.mappings.Ready.{arity_in}

@@ -7,7 +7,7 @@ use Rattle.cti_terms.specs.Listing.{Listing, IsProgram}
 use Rattle.cti_terms.specs.declared.clauses.Clause.{Clause}
 use Rattle.linear_rows.specs.Members.{In}
 use Rattle.cti_terms.specs.Tree.{Tree}
-use Rattle.numeric_model.specs.Running.{AreOwnClauses}
+use Rattle.component_clauses.specs.Numbered.{AreOwnClauses}
 use Rattle.termination_model.specs.chains.Chain.{clauses_of}
 use Rattle.termination_model.specs.mappings.ComponentViews.{members_in}
 use Rattle.termination_model.specs.sizes.Sizes.{rows_of}

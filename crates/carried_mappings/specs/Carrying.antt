@@ -7,7 +7,7 @@ use Rattle.std.specs.List.{AllByRecursion}
 use Rattle.call_components.specs.Partition.{Partition}
 use Rattle.cti_terms.specs.Listing.{Listing}
 use Rattle.cti_terms.specs.Tree.{Tree}
-use Rattle.numeric_model.specs.Running.{with_clauses}
+use Rattle.component_clauses.specs.Numbered.{with_clauses}
 use Rattle.termination_model.specs.chains.Chain.{clauses_of}
 use Rattle.termination_model.specs.mappings.ComponentViews.{members_in}
 use Rattle.level_systems.specs.Found.{IsFound}

@@ -2,6 +2,7 @@
 
 ghost use Rattle.std.specs.Prelude.{◌≡◌, ◌<◌, ℕ, IfOk, IfSome, IsNone, Some, length, slice_get, true};
 ghost use Rattle.termination_model.specs.sizes.Sizes.{AreSizes, rows_of};
+ghost use Rattle.level_systems.specs.Found.{IsFound};
 ghost use Rattle.solved_program.specs.Kept.{IsEdit};
 ghost use Rattle.solved_program.specs.Resolving.{AreSources, Stands};
 ghost use Rattle.solved_program.specs.Solved.{AreSolved};
@@ -10,9 +11,9 @@ ghost use Rattle.carried_mappings.specs.FoundMappings.{AreFound, AreKeptFound, A
 ghost use Rattle.carried_mappings.specs.FoundMappings.{IsCarriedAt, IsFoundAt, IsKept, KeepFound, ValuesAreKept};
 
 use crate::standing::Standing;
-use level_dual::mappings;
+use component_clauses::{ComponentClauses, own_clauses};
+use level_dual::component_mappings;
 use level_systems::Found;
-use numeric_model::own_clauses;
 use polyhedra::Domain;
 use sequences::Sequence;
 use solved_program::{Edit, SolvedSizes, Sources, stayed_rows};
@@ -76,6 +77,26 @@ impl MappingSources<'_> {
         standing.carry(alloc, &self.found[before as usize])
     }
 
+    /// What a search finds of a component.
+    fn searched<N: Norm>(&self, alloc: Global, norm: &N, c: u32) -> Result<Found, AllocError>
+        requires sources { AreMappingSources self.now }
+        requires inner { c < length self.now.sources.edit.now.components.now.members }
+        requires recursive { slice_get self.now.sources.edit.now.components.now.recursive c
+            ≡ Some true }
+        ensures { IfOk result (IsFound (N.expression norm.now)
+            self.now.sources.edit.now.after.now self.now.sources.edit.now.components.now
+            (rows_of self.now.sizes.now.rows) c) }
+    {
+        let edit = self.sources.edit;
+        let own = ComponentClauses {
+            program: edit.after,
+            comps: edit.components,
+            number: c,
+            clauses: self.sources.own[c as usize].as_slice(),
+        };
+        component_mappings(alloc, &own, norm, self.sizes)
+    }
+
     /// What is found of one component: nothing where it is not recursive, and else carried or searched.
     fn resolve<N: Norm>(&self, alloc: Global, norm: &N, c: u32) -> Result<Found, AllocError>
         requires sources { AreMappingSources self.now }
@@ -96,7 +117,7 @@ impl MappingSources<'_> {
         }
         match self.standing(c) {
             Some(before) => self.carried(alloc, before, c),
-            None => mappings(alloc, edit.after, edit.components, c, norm, self.sizes),
+            None => self.searched(alloc, norm, c),
         }
     }
 

@@ -4,6 +4,7 @@ ghost use Rattle.std.specs.Prelude.{◌≡◌, ◌<◌, ◌^◌, ◌+◌, ◌∷
 ghost use Rattle.std.specs.List.{AllByRecursion};
 ghost use Rattle.call_components.specs.Numbers.{number_of};
 ghost use Rattle.call_components.specs.Partition.{AreComponents, Partition};
+ghost use Rattle.component_clauses.specs.Numbered.{HasItsClauses};
 ghost use Rattle.cti_terms.specs.Tree.{Tree};
 ghost use Rattle.level_dual.specs.Cases.{undecided};
 ghost use Rattle.level_systems.specs.Found.{IsFound, count};
@@ -18,6 +19,7 @@ use crate::refuting::refutation;
 use crate::searching::search;
 use crate::small::find_small;
 use call_components::Components;
+use component_clauses::{ComponentClauses, own_clauses};
 use cti_terms::Program;
 use level_systems::{Answer, Component, Found, Position, collect, component_positions};
 use sequences::Sequence;
@@ -183,6 +185,30 @@ fn find<N: Norm>(
 ///
 /// Source: level mappings by duality, as in Sohn and Van Gelder 1991, and minimal supports as in Mesnard and Neumerkel
 /// 2001.
+pub fn component_mappings<N: Norm>(
+    alloc: Global,
+    own: &ComponentClauses<'_>,
+    norm: &N,
+    sizes: &Sizes,
+) -> Result<Found, AllocError>
+    requires clauses { HasItsClauses own.now }
+    requires recursive { slice_get own.now.comps.now.recursive own.now.number ≡ Some true }
+    requires sizes { AreSizes own.now.program.now.preds sizes.now.rows }
+    ensures { IfOk result (IsFound (N.expression norm.now) own.now.program.now own.now.comps.now
+        (rows_of sizes.now.rows) own.now.number) }
+{
+    let positions = component_positions(alloc, own.program, own.comps, own.number)?;
+    let large = is_large(positions.as_slice());
+    let full = all_numbers(alloc, count_of(positions.as_slice()))?;
+    let Some(component) = collect(alloc, own, norm, sizes, positions)? else {
+        return nothing_decided(alloc, full, large);
+    };
+    let found = find(alloc, own.program, norm, sizes, &component, full, large)?;
+    Ok(found)
+}
+
+/// The mappings of a component that decrease, or why there are none, as `component_mappings` finds them. The component's
+/// clauses are looked for, which takes the time of the program.
 pub fn mappings<N: Norm>(
     alloc: Global,
     p: &Program,
@@ -198,12 +224,12 @@ pub fn mappings<N: Norm>(
     ensures { IfOk result (IsFound (N.expression norm.now) p.now comps.now
         (rows_of sizes.now.rows) c) }
 {
-    let positions = component_positions(alloc, p, comps, c)?;
-    let large = is_large(positions.as_slice());
-    let full = all_numbers(alloc, count_of(positions.as_slice()))?;
-    let Some(component) = collect(alloc, p, comps, c, norm, sizes, positions)? else {
-        return nothing_decided(alloc, full, large);
+    let own = own_clauses(alloc, p, comps)?;
+    let component = ComponentClauses {
+        program: p,
+        comps,
+        number: c,
+        clauses: own[c as usize].as_slice(),
     };
-    let found = find(alloc, p, norm, sizes, &component, full, large)?;
-    Ok(found)
+    component_mappings(alloc, &component, norm, sizes)
 }

@@ -4,6 +4,7 @@ pub mod HeldCalls
 pub mod Holding
 pub mod MemberLists
 pub mod OwnCallLaws
+pub mod OwnPairs
 pub mod PairLists
 pub mod RowLengths
 pub mod SoundLaws

@@ -44,11 +44,6 @@ module _ (comps : Partition) (c : ℕ) where
       let more : suc j ≡ j + 1 = omega arith in
       (λ i. (if e i then (k, suc j) ∷ [] else []) ++ calls_from comps c k (suc j) bs) ∙ ap (λ n. (k, n) ∷ calls_from comps c k n bs) more
 
-  pub clause_skipped : (k : ℕ) (x : Clause) (xs : List Clause) → (rank_in comps x.head.pred.0 == c) ≡ false → pairs_from comps c k (x ∷ xs) ≡ pairs_from comps c (k + 1) xs
-  clause_skipped k x xs e =
-      let more : suc k ≡ k + 1 = omega arith in
-      (λ i. (if e i then calls_from comps c (suc k) 0 x.body else []) ++ pairs_from comps c (suc k) xs) ∙ ap (λ n. pairs_from comps c n xs) more
-
   pub clause_taken : (k : ℕ) (x : Clause) (xs : List Clause) → (rank_in comps x.head.pred.0 == c) ≡ true
       → pairs_from comps c k (x ∷ xs) ≡ calls_from comps c (k + 1) 0 x.body ++ pairs_from comps c (k + 1) xs
   clause_taken k x xs e =

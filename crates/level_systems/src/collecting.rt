@@ -3,6 +3,7 @@
 ghost use Rattle.std.specs.Prelude.{◌≡◌, ◌-◌, ◌≤◌, ◌<◌, ◌++◌, IfOk, IfSome, None, Some, length, map, slice_get, true, false};
 ghost use Rattle.std.specs.List.{AllByRecursion};
 ghost use Rattle.call_components.specs.Partition.{AreComponents, IsIn};
+ghost use Rattle.component_clauses.specs.Numbered.{HasItsClauses};
 ghost use Rattle.cti_terms.specs.declared.clauses.Clause.{Clause};
 ghost use Rattle.level_systems.specs.Collected.{IsHeldIn, SomeGivenUp};
 ghost use Rattle.level_systems.specs.Held.{IsGivenUp, IsHeldAs, numbers_of_call};
@@ -12,6 +13,7 @@ ghost use Rattle.termination_model.specs.sizes.Sizes.{AreSizes, rows_of};
 use crate::own_call::OwnCall;
 use crate::reaching::{Reach, emptiness};
 use call_components::Components;
+use component_clauses::ComponentClauses;
 use cti_terms::Program;
 use linear_rows::Rows;
 use number_tests::fall_columns;
@@ -139,36 +141,34 @@ fn add_calls<N: Norm>(
 /// the test whether these rows are empty is blown.
 pub fn own_calls<N: Norm>(
     alloc: Global,
-    p: &Program,
-    comps: &Components,
-    c: u32,
+    own: &ComponentClauses<'_>,
     norm: &N,
     sizes: &Sizes,
 ) -> Result<Option<Vec<OwnCall>>, AllocError>
-    requires components { AreComponents p.now comps.now }
-    requires sizes { AreSizes p.now.preds sizes.now.rows }
+    requires clauses { HasItsClauses own.now }
+    requires sizes { AreSizes own.now.program.now.preds sizes.now.rows }
     ensures pairs { IfOk result
-        (λ o. IfSome o (λ calls. map numbers_of_call calls.items ≡ pairs_of p.now comps.now c)) }
+        (λ o. IfSome o (λ calls. map numbers_of_call calls.items
+        ≡ pairs_of own.now.program.now own.now.comps.now own.now.number)) }
     ensures held { IfOk result
         (λ o. IfSome o (λ calls. AllByRecursion
-        (IsHeldIn (N.expression norm.now) p.now
-        (rows_of sizes.now.rows) comps.now c) calls.items)) }
+        (IsHeldIn (N.expression norm.now) own.now.program.now
+        (rows_of sizes.now.rows) own.now.comps.now own.now.number) calls.items)) }
     ensures given_up { IfOk result (λ o. o ≡ None
-        → SomeGivenUp (N.expression norm.now) p.now (rows_of sizes.now.rows)
-        (pairs_of p.now comps.now c)) }
+        → SomeGivenUp (N.expression norm.now) own.now.program.now (rows_of sizes.now.rows)
+        (pairs_of own.now.program.now own.now.comps.now own.now.number)) }
 {
+    // What every program keeps.
+    own.program.preds();
     let setting = Setting {
-        program: p,
-        comps,
+        program: own.program,
+        comps: own.comps,
         norm,
         sizes,
     };
     let mut calls = Vec::new(alloc);
-    for k in 0..p.clauses() {
-        if comps.of(p.clause(k + 1).head.pred) != c {
-            continue;
-        }
-        if !add_calls(alloc, &setting, c, k + 1, &mut calls)? {
+    for k in own.clauses {
+        if !add_calls(alloc, &setting, own.number, *k, &mut calls)? {
             return Ok(None);
         }
     }

@@ -4,6 +4,7 @@ ghost use Rattle.std.specs.Prelude.{◌≡◌, ◌||◌, ◌==◌, ◌++◌, ◌
 ghost use Rattle.std.specs.List.{AllByRecursion, list_any};
 ghost use Rattle.call_components.specs.Numbers.{number_of};
 ghost use Rattle.call_components.specs.Partition.{AreComponents};
+ghost use Rattle.component_clauses.specs.Numbered.{HasItsClauses};
 ghost use Rattle.level_systems.specs.Held.{spelled};
 ghost use Rattle.level_systems.specs.Ordered.{arguments_from, members_by_clauses};
 ghost use Rattle.termination_model.specs.mappings.ComponentViews.{positions_in};
@@ -11,6 +12,7 @@ ghost use Rattle.termination_model.specs.mappings.Ready.{arity_in, positions_by}
 
 use crate::position::Position;
 use call_components::Components;
+use component_clauses::ComponentClauses;
 use cti_terms::{PredId, Program};
 use std::alloc::{AllocError, Global};
 
@@ -29,18 +31,18 @@ fn is_listed(preds: &[PredId], pred: PredId) -> bool
 /// The members that have clauses, by the numbers of their first clauses.
 pub fn members_by_clauses(
     alloc: Global,
-    p: &Program,
-    comps: &Components,
-    c: u32,
+    own: &ComponentClauses<'_>,
 ) -> Result<Vec<PredId>, AllocError>
-    requires { AreComponents p.now comps.now }
+    requires { HasItsClauses own.now }
     ensures { IfOk result (λ members. map number_of members.items
-        ≡ members_by_clauses comps.now c [] p.now.clauses) }
+        ≡ members_by_clauses own.now.comps.now own.now.number [] own.now.program.now.clauses) }
 {
+    // What every program keeps.
+    own.program.preds();
     let mut members = Vec::new(alloc);
-    for k in 0..p.clauses() {
-        let pred = p.clause(k + 1).head.pred;
-        if comps.of(pred) != c || is_listed(members.as_slice(), pred) {
+    for k in own.clauses {
+        let pred = own.program.clause(*k).head.pred;
+        if is_listed(members.as_slice(), pred) {
             continue;
         }
         members.push(pred)?;

@@ -5,6 +5,7 @@ ghost use Rattle.std.specs.List.{flat_map};
 ghost use Rattle.call_components.specs.Partition.{AreComponents};
 ghost use Rattle.cert_assembly.specs.ChainNotes.{chain_notes};
 ghost use Rattle.cert_assembly.specs.Sizing.{IsSolvedChain};
+ghost use Rattle.component_clauses.specs.Numbered.{HasItsClauses};
 ghost use Rattle.lex_certificate.specs.Flat.{union_part};
 ghost use Rattle.lex_certificate.specs.Order.{listed};
 ghost use Rattle.lex_measures.specs.Assembly.{AreBounded, AreFound, ArePartsOf, IsAssembled, IsFlatOf, with_lists};
@@ -22,9 +23,10 @@ use crate::printed::Printed;
 use call_components::Components;
 use cert_assembly::{Bounded, Measured, move_sizes, note_chain};
 use cert_structure::Parts;
+use component_clauses::{ComponentClauses, own_clauses};
 use cti_terms::{Names, Program};
 use lex_certificate::{LexCertificate, LexFact, LexParts, facts_of, flat_levels};
-use lex_turns::FoundLists;
+use lex_turns::{FoundLists, search};
 use linear_rows::Multipliers;
 use number_tests::{LevelPart, Refutation};
 use numeric_model::{Chain, Step};
@@ -32,7 +34,7 @@ use polyhedra::Poly;
 use sequences::Sequence;
 use std::alloc::{AllocError, Global};
 use std::mem;
-use term_size::{AnyNorm, TermSize};
+use term_size::{AnyNorm, Norm, TermSize};
 use termination_model::{SizeRows, Sizes};
 
 /// What a certificate is made of: its parts, and the notes after their facts.
@@ -73,18 +75,22 @@ fn nothing(alloc: Global) -> FoundLists {
 }
 
 /// What is found of a component's lists: nothing, where it is not recursive.
-fn find(alloc: Global, measured: &Measured, c: u32, sizes: &Sizes) -> Result<FoundLists, AllocError>
-    requires components { AreComponents measured.now.p.now measured.now.comps.now }
-    requires inner { c < length measured.now.comps.now.members }
-    requires sizes { AreSizes measured.now.p.now.preds sizes.now.rows }
-    ensures { IfOk result (λ f. slice_get measured.now.comps.now.recursive c ≡ Some true
-        → AreFoundLists (any_row measured.now.norm) measured.now.p.now measured.now.comps.now
-        (rows_of sizes.now.rows) c f) }
+fn find<N: Norm>(
+    alloc: Global,
+    own: &ComponentClauses<'_>,
+    norm: &N,
+    sizes: &Sizes,
+) -> Result<FoundLists, AllocError>
+    requires clauses { HasItsClauses own.now }
+    requires sizes { AreSizes own.now.program.now.preds sizes.now.rows }
+    ensures { IfOk result (λ f. slice_get own.now.comps.now.recursive own.now.number ≡ Some true
+        → AreFoundLists (N.expression norm.now) own.now.program.now own.now.comps.now
+        (rows_of sizes.now.rows) own.now.number f) }
 {
-    if !measured.comps.recursive(c) {
+    if !own.comps.recursive(own.number) {
         return Ok(nothing(alloc));
     }
-    lex_turns::search(alloc, measured.p, measured.comps, c, &measured.norm, sizes)
+    search(alloc, own, norm, sizes)
 }
 
 /// What is found of the lists of each component.
@@ -99,9 +105,16 @@ fn find_all(
         (any_row measured.now.norm) measured.now.p.now measured.now.comps.now
         sizes.now.rows) }
 {
+    let own = own_clauses(alloc, measured.p, measured.comps)?;
     let mut found = Sequence::new(alloc);
     for c in 0..measured.comps.count() {
-        found.push(find(alloc, measured, c, sizes)?)?;
+        let component = ComponentClauses {
+            program: measured.p,
+            comps: measured.comps,
+            number: c,
+            clauses: own[c as usize].as_slice(),
+        };
+        found.push(find(alloc, &component, &measured.norm, sizes)?)?;
     }
     Ok(found)
 }

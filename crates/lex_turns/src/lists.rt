@@ -1,14 +1,13 @@
 //! The search for the lists of a component.
 
-ghost use Rattle.std.specs.Prelude.{◌≡◌, ◌<◌, IfOk, Some, length, slice_get, true};
-ghost use Rattle.call_components.specs.Partition.{AreComponents};
+ghost use Rattle.std.specs.Prelude.{◌≡◌, IfOk, Some, slice_get, true};
+ghost use Rattle.component_clauses.specs.Numbered.{HasItsClauses};
 ghost use Rattle.lex_turns.specs.FoundLists.{AreFoundLists};
 ghost use Rattle.termination_model.specs.sizes.Sizes.{AreSizes, rows_of};
 
 use crate::deciding::{find, nothing_decided};
 use crate::found_lists::FoundLists;
-use call_components::Components;
-use cti_terms::Program;
+use component_clauses::ComponentClauses;
 use level_dual::{all_numbers, count_of, is_large};
 use level_systems::{collect, component_positions};
 use std::alloc::{AllocError, Global};
@@ -26,25 +25,22 @@ use termination_model::Sizes;
 /// Source: lexicographic ranking by linear programs, as in Alias, Darte, Feautrier and Gonnord 2010.
 pub fn search<N: Norm>(
     alloc: Global,
-    p: &Program,
-    comps: &Components,
-    c: u32,
+    own: &ComponentClauses<'_>,
     norm: &N,
     sizes: &Sizes,
 ) -> Result<FoundLists, AllocError>
-    requires components { AreComponents p.now comps.now }
-    requires inner { c < length comps.now.members }
-    requires recursive { slice_get comps.now.recursive c ≡ Some true }
-    requires sizes { AreSizes p.now.preds sizes.now.rows }
-    ensures { IfOk result (AreFoundLists (N.expression norm.now) p.now comps.now
-        (rows_of sizes.now.rows) c) }
+    requires clauses { HasItsClauses own.now }
+    requires recursive { slice_get own.now.comps.now.recursive own.now.number ≡ Some true }
+    requires sizes { AreSizes own.now.program.now.preds sizes.now.rows }
+    ensures { IfOk result (AreFoundLists (N.expression norm.now) own.now.program.now
+        own.now.comps.now (rows_of sizes.now.rows) own.now.number) }
 {
-    let positions = component_positions(alloc, p, comps, c)?;
+    let positions = component_positions(alloc, own.program, own.comps, own.number)?;
     let large = is_large(positions.as_slice());
     let full = all_numbers(alloc, count_of(positions.as_slice()))?;
-    let Some(component) = collect(alloc, p, comps, c, norm, sizes, positions)? else {
+    let Some(component) = collect(alloc, own, norm, sizes, positions)? else {
         return nothing_decided(alloc, full, large);
     };
-    let found = find(alloc, p, norm, sizes, &component, full)?;
+    let found = find(alloc, own.program, norm, sizes, &component, full)?;
     Ok(found)
 }

@@ -17,7 +17,7 @@ use Rattle.linear_rows.specs.Replacing.{row_fits}
 use Rattle.linear_rows.specs.Step.{columns}
 use Rattle.linear_rows.specs.declared.multipliers.Multipliers.{Multipliers}
 use Rattle.linear_rows.specs.declared.row.Rows.{Rows}
-use Rattle.linear_rows.proofs.Members.{in-filter, in-flat_map, to_All}
+use Rattle.linear_rows.proofs.Members.{in-filter, to_All}
 use Rattle.termination_model.specs.chains.Chain.{after_passes, after_runs, clauses_of, component_of, counted, is_number, start_rows, ArePasses, AreRuns}
 use Rattle.termination_model.specs.chains.ChainRows.{AreSpoken}
 use Rattle.termination_model.specs.chains.ChainSteps.{Step as PlainStep}
@@ -32,9 +32,10 @@ use Rattle.numeric_model.specs.declared.state.State.{State}
 use Rattle.numeric_model.specs.declared.step.Step.{Step}
 use Rattle.numeric_model.specs.declared.value.Value.{Value}
 use Rattle.numeric_model.specs.Proved.{AreProved, AreShownOver, IsProved}
-use Rattle.numeric_model.specs.Running.{HaveProofs, IsChained, IsRun, paired, rows_in, with_clause, with_clauses}
+use Rattle.component_clauses.specs.Numbered.{with_clauses}
+use Rattle.numeric_model.specs.Running.{HaveProofs, IsChained, IsRun, rows_in}
 use Rattle.numeric_model.specs.States.{IsState, is_from, own_from, plain_step}
-use Rattle.numeric_model.proofs.OwnClauses.{some_at}
+use Rattle.component_clauses.proofs.OwnClauses.{own_at, some_at}
 
 abbrev Numbered : Type 0
 Numbered = ℕ × Clause
@@ -267,15 +268,7 @@ from_more comps c q = go (slice_get comps.of q)
 -- the heads of a component's clauses are of it
 pub own_head : (p : Listing) (comps : Partition) → IsProgram p → AreComponents p comps → (c : ℕ) (own : List ℕ) → with_clauses p.clauses own ≡ clauses_of p comps c
     → (j k : ℕ) (x : Clause) → slice_get own j ≡ Some k → slice_get p.clauses (k - 1) ≡ Some x → own_from comps c x.head.pred.0 ≡ true
-own_head p comps prog are c own same j k x at there =
-    let i : In (k, x) (with_clauses p.clauses own) = in-flat_map (with_clause p.clauses) own k (k, x) (placed_in own j at) (subst (λ (o : Option Clause). In (k, x) (paired k o)) (sym there) (inl refl)) in
-    let own_is = of_own p comps prog are c (k, x) (subst (λ (ks : List Numbered). In (k, x) ks) same i) in
-    ap (is_from c) own_is.1 ∙ itself c
+own_head p comps prog are c own same j k x at there = ap (is_from c) (of_own p comps prog are c (k, x) (own_at p comps c own same j k x at there)).1 ∙ itself c
   where
     itself : (n : ℕ) → nat_le n n ≡ true
     itself n = grind (arith, nat_tests)
-
-    placed_in : (xs : List ℕ) (j : ℕ) → slice_get xs j ≡ Some k → In k xs
-    placed_in [] j e = cc
-    placed_in (y ∷ xs) zero e = inl cc
-    placed_in (y ∷ xs) (suc j) e = inr (placed_in xs j e)

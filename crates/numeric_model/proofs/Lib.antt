@@ -7,7 +7,6 @@ pub mod Images
 pub mod Kept
 pub mod Naturals
 pub mod Notes
-pub mod OwnClauses
 pub mod Passes
 pub mod Passing
 pub mod Readies

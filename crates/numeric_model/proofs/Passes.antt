@@ -1,17 +1,18 @@
 -- A pass, one step more at the end, and the passes of a component, one pass more.
-use Rattle.std.proofs.Common.{◌≡◌, ◌≢◌, ℕ, suc, ◌+◌, ◌-◌, ◌*◌, ◌<◌, ◌≤◌, ◌==◌, ℤ, Bool, true, false, ◌||◌, inl, inr, ◌⊎◌, List, [], ◌∷◌, ◌++◌, append_assoc, map, length, slice_get, slice_set, Some, refl, ap, sym, subst, ◌∙◌, arith, eqb-true}
+use Rattle.std.proofs.Common.{◌≡◌, ◌≢◌, ℕ, suc, ◌+◌, ◌-◌, ◌*◌, ◌<◌, ◌≤◌, ◌==◌, ℤ, Bool, true, false, ◌||◌, inl, inr, ◌⊎◌, List, [], ◌∷◌, ◌++◌, append_assoc, map, length, slice_get, slice_set, Option, None, Some, refl, ap, sym, subst, ◌∙◌, arith, eqb-true}
 use Rattle.std.specs.List.{flat_map}
 use Rattle.std.proofs.lemmas.Bool.Decides.{nat_tests}
 use Rattle.call_components.proofs.Lists.{slice_get-set_same, slice_get-set_other}
 use Rattle.cti_terms.specs.Tree.{Tree}
 use Rattle.cti_terms.specs.declared.clauses.Clause.{Clause}
 use Rattle.linear_rows.specs.Members.{In}
-use Rattle.linear_rows.proofs.Members.{of-append}
+use Rattle.linear_rows.proofs.Members.{of-append, of-flat_map}
 use Rattle.linear_rows.specs.declared.multipliers.Multipliers.{Multipliers}
 use Rattle.termination_model.specs.chains.Chain.{after, after_pass, after_passes, AreUnchanged, AreSteps}
 use Rattle.termination_model.specs.chains.ChainSteps.{Step as PlainStep, IsLegalStep}
 use Rattle.termination_model.proofs.ChainLeaves.{after_same, pass_same}
 use Rattle.termination_model.proofs.Lists.{map_push, place_below}
+use Rattle.component_clauses.specs.Numbered.{paired, with_clause, with_clauses}
 use Rattle.numeric_model.specs.declared.state.State.{State}
 use Rattle.numeric_model.specs.declared.step.Step.{Step}
 use Rattle.numeric_model.specs.Proved.{IsProved}
@@ -48,6 +49,16 @@ or_false false b e = (refl, e)
 -- pairs of a number and its clause
 abbrev pub AreNumbered : List Clause → List (ℕ × Clause) → Type 0
 AreNumbered clauses ks = (k : ℕ × Clause) → In k ks → slice_get clauses (k.0 - 1) ≡ Some k.1
+
+pub numbered_with : (clauses : List Clause) (own : List ℕ) → AreNumbered clauses (with_clauses clauses own)
+numbered_with clauses own x i =
+    let f = of-flat_map (with_clause clauses) own x i in
+    go f.0 (slice_get clauses (f.0 - 1)) refl f.2
+  where
+    go : (k : ℕ) (o : Option Clause) → slice_get clauses (k - 1) ≡ o → In x (paired k o) → slice_get clauses (x.0 - 1) ≡ Some x.1
+    go k None e i = absurd i
+    go k (Some c) e (inl is) = subst (λ (y : ℕ × Clause). slice_get clauses (y.0 - 1) ≡ Some y.1) is e
+    go k (Some c) e (inr i) = absurd i
 
 module _ {D : Type 0} (width : D → ℕ) (listed : D → List (List ℤ)) (speaks : List ℤ → Bool) (expression : ℕ → Tree → List ℤ) where
   none_more : (xs : List Step) → xs ≡ xs ++ []

@@ -1,26 +1,18 @@
 -- Private.
 -- A state in which the components of a program are solved one after another.
 --
--- To believe: `IsComponent`, `IsReady`, `KeepsOtherRows`.
-use Rattle.std.specs.Prelude.{◌≡◌, ℕ, ◌+◌, ◌<◌, ◌≤◌, ℤ, false, List, [], length}
-use Rattle.std.specs.List.{AllByRecursion}
-use Rattle.call_components.specs.Partition.{Partition, AreComponents, IsIn}
+-- To believe: `IsReady`, `KeepsOtherRows`.
+use Rattle.std.specs.Prelude.{◌≡◌, ℕ, ◌+◌, ℤ, false, List, []}
+use Rattle.call_components.specs.Partition.{Partition, IsIn}
 use Rattle.cti_terms.specs.Listing.{Listing}
-use Rattle.termination_model.specs.chains.Chain.{clauses_of, component_of, start_rows}
+use Rattle.termination_model.specs.chains.Chain.{component_of, start_rows}
 use Rattle.termination_model.specs.chains.Runs.{is_before}
-use Rattle.numeric_model.specs.Running.{rows_in, with_clauses}
+use Rattle.numeric_model.specs.Running.{rows_in}
 use Rattle.numeric_model.specs.States.{IsState, own_from}
 use Rattle.numeric_model.specs.declared.chain.Chain.{Chain}
-use Rattle.numeric_model.specs.declared.in_turn.ComponentClauses.{ComponentClauses}
+use Rattle.component_clauses.specs.declared.component.ComponentClauses.{ComponentClauses}
 use Rattle.numeric_model.specs.declared.state.State.{State}
 use Rattle.numeric_model.specs.declared.step.Step.{Step}
-
--- these are the clauses of a component
-pub record IsComponent (own : ComponentClauses) : Type 0 where
-  pub components : AreComponents own.program.now own.comps.now
-  pub inner : own.number < length own.comps.now.members
-  pub within : AllByRecursion (λ k. (1 ≤ k) × (k ≤ length own.program.now.clauses)) own.clauses.now
-  pub clauses_are : with_clauses own.program.now.clauses own.clauses.now ≡ clauses_of own.program.now own.comps.now own.number
 
 module _ {D : Type 0} (width : D → ℕ) (listed : D → List (List ℤ)) where
   -- the state of a chain at a component: predicates of earlier ones need no values

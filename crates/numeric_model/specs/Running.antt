@@ -1,7 +1,7 @@
 -- Private.
 -- What a step, a pass, and the passes of a component do to the state of a chain.
-use Rattle.std.specs.Prelude.{All, ◌≡◌, ◌≢◌, ℕ, ◌-◌, ◌<◌, ◌≤◌, ℤ, Bool, true, false, List, [], ◌∷◌, ◌++◌, length, map, slice_get, slice_set, Option, None, Some}
-use Rattle.std.specs.List.{AllByRecursion, flat_map}
+use Rattle.std.specs.Prelude.{All, ◌≡◌, ◌≢◌, ℕ, ◌-◌, ◌<◌, ℤ, Bool, true, false, List, [], ◌∷◌, ◌++◌, map, slice_get, slice_set, Some}
+use Rattle.std.specs.List.{flat_map}
 use Rattle.call_components.specs.Partition.{Partition}
 use Rattle.cti_terms.specs.Listing.{Listing}
 use Rattle.cti_terms.specs.Tree.{Tree}
@@ -17,24 +17,6 @@ use Rattle.numeric_model.specs.Proved.{IsProved}
 use Rattle.numeric_model.specs.States.{plain_step, weights}
 use Rattle.numeric_model.specs.declared.state.State.{State}
 use Rattle.numeric_model.specs.declared.step.Step.{Step}
-
--- the clause of a number, with it
-abbrev pub paired : ℕ → Option Clause → List (ℕ × Clause)
-paired k None = []
-paired k (Some c) = (k, c) ∷ []
-
-abbrev pub with_clause : List Clause → ℕ → List (ℕ × Clause)
-with_clause clauses k = paired k (slice_get clauses (k - 1))
-
--- clauses by their numbers
-abbrev pub with_clauses : List Clause → List ℕ → List (ℕ × Clause)
-with_clauses clauses own = flat_map (with_clause clauses) own
-
--- for each component the numbers of its clauses, in order
-pub record AreOwnClauses (p : Listing) (comps : Partition) (lists : List (List ℕ)) : Type 0 where
-  pub each : length lists ≡ length comps.members
-  pub within : (c : ℕ) (own : List ℕ) → slice_get lists c ≡ Some own → AllByRecursion (λ k. (1 ≤ k) × (k ≤ length p.clauses)) own
-  pub clauses : (c : ℕ) (own : List ℕ) → slice_get lists c ≡ Some own → with_clauses p.clauses own ≡ clauses_of p comps c
 
 -- the size rows in a state
 abbrev pub rows_in : {D : Type 0} → State D → ℕ → List (List ℤ)

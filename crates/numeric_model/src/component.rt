@@ -8,10 +8,9 @@ ghost use Rattle.numeric_model.specs.Parts.{IsPartOf};
 ghost use Rattle.termination_model.specs.chains.Runs.{is_before};
 
 use crate::chain::Chain;
-use crate::clause_lists::own_clauses;
-use crate::in_turn::ComponentClauses;
 use crate::state::State;
 use call_components::Components;
+use component_clauses::{ComponentClauses, own_clauses};
 use cti_terms::{PredId, Program};
 use polyhedra::Domain;
 use std::alloc::{AllocError, Global};
@@ -46,7 +45,7 @@ pub fn solve_component<D: Domain, N: Norm>(
         number: c,
         clauses: own[c as usize].as_slice(),
     };
-    component.run_passes(alloc, norm, &mut state)?;
+    state.run_passes(alloc, norm, &component)?;
     Ok(state.into_chain())
 }
 

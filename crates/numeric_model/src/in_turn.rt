@@ -2,29 +2,18 @@
 
 ghost use Rattle.std.specs.Prelude.{IfOk, OnOk};
 ghost use Rattle.numeric_model.specs.Parts.{IsPartOf};
-ghost use Rattle.numeric_model.specs.Ready.{IsComponent, IsReadyAfter, IsReadyFor, KeepsOtherRows, chain_of};
+ghost use Rattle.component_clauses.specs.Numbered.{HasItsClauses};
+ghost use Rattle.numeric_model.specs.Ready.{IsReadyAfter, IsReadyFor, KeepsOtherRows, chain_of};
 ghost use Rattle.numeric_model.specs.Running.{rows_in};
 
 use crate::state::State;
 use crate::step::Step;
-use call_components::Components;
-use cti_terms::Program;
+use component_clauses::ComponentClauses;
 use polyhedra::Domain;
 use sequences::Sequence;
 use std::alloc::{AllocError, Global};
 use std::mem;
 use term_size::Norm;
-
-/// A component of a program, with the numbers of its clauses.
-#[derive(Clone, Copy)]
-pub struct ComponentClauses<'a> {
-    pub program: &'a Program,
-    pub comps: &'a Components,
-    /// The component.
-    pub number: u32,
-    /// The numbers of its clauses, in order.
-    pub clauses: &'a [u32],
-}
 
 impl<D: Domain> State<D> {
     /// Takes the steps of a component above the rows of earlier ones, and proves the rows that they end with.
@@ -36,7 +25,7 @@ impl<D: Domain> State<D> {
         norm: &N,
         own: &ComponentClauses<'_>,
     ) -> Result<Sequence<Step>, AllocError>
-        requires component { IsComponent own.now }
+        requires component { HasItsClauses own.now }
         requires ready { IsReadyFor D.width D.listed own.now self.old }
         ensures ready { OnOk result (IsReadyAfter D.width D.listed own.now self.new) }
         ensures part { IfOk result
@@ -45,7 +34,7 @@ impl<D: Domain> State<D> {
         ensures others { OnOk result (KeepsOtherRows own.now self.old self.new) }
     {
         let _program = own.program.clauses();
-        own.run_passes(alloc, norm, self)?;
+        self.run_passes(alloc, norm, own)?;
         self.latest.forget(own.comps.members(own.number));
         Ok(mem::replace(&mut self.steps, Sequence::new(alloc)))
     }

@@ -7,11 +7,11 @@
 //! Components can also be solved one by one: `solve_component` solves one above the rows of those that it calls, in the
 //! time of the program, and `State::solve` solves one after another in one state, each in its own time.
 //!
-//! Depends on `polyhedra`, whose trait of domains says all that is used of a domain, and on `termination_model`.
+//! Depends on `polyhedra`, whose trait of domains says all that is used of a domain, on `component_clauses`, and on
+//! `termination_model`.
 #![tactic(auto)]
 
 mod chain;
-mod clause_lists;
 mod component;
 mod filled;
 mod in_turn;
@@ -28,9 +28,7 @@ mod stepping;
 mod value;
 
 pub use chain::Chain;
-pub use clause_lists::own_clauses;
 pub use component::solve_component;
-pub use in_turn::ComponentClauses;
 pub use solving::solve;
 pub use state::State;
 pub use step::Step;

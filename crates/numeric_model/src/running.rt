@@ -1,20 +1,21 @@
 //! Steps, passes and components.
 
 ghost use Rattle.std.specs.Prelude.{◌≡◌, ◌≤◌, ◌<◌, ◌-◌, true, IfOk, OnOk, length, slice_get, Some};
+ghost use Rattle.component_clauses.specs.Numbered.{HasItsClauses, with_clauses};
 ghost use Rattle.cti_terms.specs.declared.clauses.Clause.{Clause};
 ghost use Rattle.numeric_model.specs.Noting.{HasRowsOf, IsNoted};
-ghost use Rattle.numeric_model.specs.Ready.{IsComponent, IsStateFor};
+ghost use Rattle.numeric_model.specs.Ready.{IsStateFor};
 ghost use Rattle.numeric_model.specs.Repeating.{IsMarked, WereLegal};
-ghost use Rattle.numeric_model.specs.Running.{IsPassed, IsRun, IsTaken, with_clauses};
+ghost use Rattle.numeric_model.specs.Running.{IsPassed, IsRun, IsTaken};
 ghost use Rattle.numeric_model.specs.States.{own_from};
 ghost use Rattle.termination_model.specs.sizes.Sizes.{AreSizes, rows_of};
 
 use crate::filled::Filled;
-use crate::in_turn::ComponentClauses;
 use crate::noting::{Noted, note_step};
 use crate::repeating::note_again;
 use crate::state::State;
 use crate::value::Value;
+use component_clauses::ComponentClauses;
 use cti_terms::Program;
 use polyhedra::Domain;
 use std::alloc::{AllocError, Global};
@@ -52,82 +53,82 @@ fn note<D: Domain, N: Norm>(
     note_step(alloc, p, norm, &state.sizes, value, k, pass)
 }
 
-impl ComponentClauses<'_> {
+impl<D: Domain> State<D> {
     /// A step on clause `k`. It says whether rows changed.
-    fn run_step<D: Domain, N: Norm>(
-        &self,
+    fn run_step<N: Norm>(
+        &mut self,
         alloc: Global,
         norm: &N,
+        own: &ComponentClauses<'_>,
         k: u32,
         pass: u32,
-        state: &mut State<D>,
     ) -> Result<bool, AllocError>
         requires first { 1 ≤ k }
-        requires last { k ≤ length self.now.program.now.clauses }
-        requires head { (x : Clause) → slice_get self.now.program.now.clauses (k - 1) ≡ Some x
-            → own_from self.now.comps.now self.now.number x.head.pred.0 ≡ true }
-        requires state { IsStateFor D.width D.listed self.now state.old }
-        requires legal { WereLegal D.speaks (N.expression norm.now) self.now.program.now state.old }
-        ensures state { OnOk result (IsStateFor D.width D.listed self.now state.new) }
+        requires last { k ≤ length own.now.program.now.clauses }
+        requires head { (x : Clause) → slice_get own.now.program.now.clauses (k - 1) ≡ Some x
+            → own_from own.now.comps.now own.now.number x.head.pred.0 ≡ true }
+        requires state { IsStateFor D.width D.listed own.now self.old }
+        requires legal { WereLegal D.speaks (N.expression norm.now) own.now.program.now self.old }
+        ensures state { OnOk result (IsStateFor D.width D.listed own.now self.new) }
         ensures taken { IfOk result (λ changed. (x : Clause)
-            → slice_get self.now.program.now.clauses (k - 1) ≡ Some x
+            → slice_get own.now.program.now.clauses (k - 1) ≡ Some x
             → IsTaken D.width D.listed D.speaks (N.expression norm.now) pass
-            (k, x) state.old state.new changed
-            × IsMarked x.head.pred.0 state.old state.new changed) }
+            (k, x) self.old self.new changed
+            × IsMarked x.head.pred.0 self.old self.new changed) }
     {
-        let pred = self.program.clause(k).head.pred;
-        let value = &state.values[pred.0 as usize];
-        let noted = note(alloc, self.program, norm, k, pass, state, value)?;
-        state.accept(alloc, k, pred, noted)
+        let pred = own.program.clause(k).head.pred;
+        let value = &self.values[pred.0 as usize];
+        let noted = note(alloc, own.program, norm, k, pass, self, value)?;
+        self.accept(alloc, k, pred, noted)
     }
 
     /// A step on each of the clauses, in order. It says whether rows changed.
-    fn run_pass<D: Domain, N: Norm>(
-        &self,
+    fn run_pass<N: Norm>(
+        &mut self,
         alloc: Global,
         norm: &N,
+        own: &ComponentClauses<'_>,
         number: u32,
-        state: &mut State<D>,
     ) -> Result<bool, AllocError>
-        requires component { IsComponent self.now }
-        requires state { IsStateFor D.width D.listed self.now state.old }
-        requires legal { WereLegal D.speaks (N.expression norm.now) self.now.program.now state.old }
-        ensures state { OnOk result (IsStateFor D.width D.listed self.now state.new) }
+        requires component { HasItsClauses own.now }
+        requires state { IsStateFor D.width D.listed own.now self.old }
+        requires legal { WereLegal D.speaks (N.expression norm.now) own.now.program.now self.old }
+        ensures state { OnOk result (IsStateFor D.width D.listed own.now self.new) }
         ensures legal { OnOk result
-            (WereLegal D.speaks (N.expression norm.now) self.now.program.now state.new) }
+            (WereLegal D.speaks (N.expression norm.now) own.now.program.now self.new) }
         ensures passed { IfOk result
             (IsPassed D.width D.listed D.speaks (N.expression norm.now) number
-            (with_clauses self.now.program.now.clauses self.now.clauses.now) state.old state.new) }
+            (with_clauses own.now.program.now.clauses own.now.clauses.now) self.old self.new) }
     {
-        let _program = self.program.clauses();
+        let _program = own.program.clauses();
         let mut changed = false;
-        for k in self.clauses {
-            let more = self.run_step(alloc, norm, *k, number, state)?;
+        for k in own.clauses {
+            let more = self.run_step(alloc, norm, own, *k, number)?;
             changed |= more;
         }
         Ok(changed)
     }
 
     /// Passes over the clauses until one changes nothing.
-    pub(crate) fn run_passes<D: Domain, N: Norm>(
-        &self,
+    pub(crate) fn run_passes<N: Norm>(
+        &mut self,
         alloc: Global,
         norm: &N,
-        state: &mut State<D>,
+        own: &ComponentClauses<'_>,
     ) -> Result<(), AllocError>
-        requires component { IsComponent self.now }
-        requires state { IsStateFor D.width D.listed self.now state.old }
-        requires legal { WereLegal D.speaks (N.expression norm.now) self.now.program.now state.old }
-        ensures state { OnOk result (IsStateFor D.width D.listed self.now state.new) }
+        requires component { HasItsClauses own.now }
+        requires state { IsStateFor D.width D.listed own.now self.old }
+        requires legal { WereLegal D.speaks (N.expression norm.now) own.now.program.now self.old }
+        ensures state { OnOk result (IsStateFor D.width D.listed own.now self.new) }
         ensures legal { OnOk result
-            (WereLegal D.speaks (N.expression norm.now) self.now.program.now state.new) }
+            (WereLegal D.speaks (N.expression norm.now) own.now.program.now self.new) }
         ensures run { OnOk result
             (IsRun D.width D.listed D.speaks (N.expression norm.now)
-            (with_clauses self.now.program.now.clauses self.now.clauses.now) state.old state.new) }
+            (with_clauses own.now.program.now.clauses own.now.clauses.now) self.old self.new) }
     {
         let mut number = 1;
         loop {
-            let changed = self.run_pass(alloc, norm, number, state)?;
+            let changed = self.run_pass(alloc, norm, own, number)?;
             if !changed {
                 return Ok(());
             }

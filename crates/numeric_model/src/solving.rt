@@ -10,10 +10,9 @@ ghost use Rattle.numeric_model.specs.Running.{IsChained};
 ghost use Rattle.numeric_model.specs.States.{IsState, own_from, plain_step};
 
 use crate::chain::Chain;
-use crate::clause_lists::own_clauses;
-use crate::in_turn::ComponentClauses;
 use crate::state::State;
 use call_components::Components;
+use component_clauses::{ComponentClauses, own_clauses};
 use cti_terms::Program;
 use polyhedra::Domain;
 use std::alloc::{AllocError, Global};
@@ -75,7 +74,7 @@ fn run_all<D: Domain, N: Norm>(
             number: c,
             clauses: own[c as usize].as_slice(),
         };
-        component.run_passes(alloc, norm, &mut state)?;
+        state.run_passes(alloc, norm, &component)?;
     }
     Ok(state)
 }

@@ -5,6 +5,7 @@ ghost use Rattle.call_components.specs.Partition.{AreComponents};
 ghost use Rattle.cert_checker.specs.Norms.{norm_in};
 ghost use Rattle.certificate.specs.Text.{text_of};
 ghost use Rattle.cert_structure.specs.Order.{listed};
+ghost use Rattle.component_clauses.specs.Numbered.{HasItsClauses};
 ghost use Rattle.level_systems.specs.Found.{IsFound};
 ghost use Rattle.numeric_model.specs.States.{plain_step};
 ghost use Rattle.report.specs.Assembly.{AreBounded, AreFound, ArePartsOf, IsAssembled, facts_in, with_mappings};
@@ -24,13 +25,14 @@ use cert_checker::norm_of;
 use cert_structure::Parts;
 use cert_writing::facts_of;
 use certificate::{CertNorm, Certificate, Fact};
+use component_clauses::{ComponentClauses, own_clauses};
 use cti_terms::{Names, Program};
-use level_dual::Found;
+use level_dual::{Found, component_mappings};
 use numeric_model::{Chain, Step};
 use polyhedra::Poly;
 use sequences::Sequence;
 use std::alloc::{AllocError, Global};
-use term_size::{AnyNorm, NormName};
+use term_size::{AnyNorm, Norm, NormName};
 use termination_model::{SizeRows, Sizes};
 
 /// What a certificate is made of: its parts, and what its notes tell, which are the steps of its chain and what was
@@ -161,18 +163,22 @@ pub(crate) fn put_mappings(
 }
 
 /// What is found of a component's mappings: nothing, where it is not recursive.
-fn find(alloc: Global, measured: &Measured, c: u32, sizes: &Sizes) -> Result<Found, AllocError>
-    requires components { AreComponents measured.now.p.now measured.now.comps.now }
-    requires inner { c < length measured.now.comps.now.members }
-    requires sizes { AreSizes measured.now.p.now.preds sizes.now.rows }
-    ensures { IfOk result (λ f. slice_get measured.now.comps.now.recursive c ≡ Some true
-        → IsFound (any_row measured.now.norm) measured.now.p.now measured.now.comps.now
-        (rows_of sizes.now.rows) c f) }
+fn find<N: Norm>(
+    alloc: Global,
+    own: &ComponentClauses<'_>,
+    norm: &N,
+    sizes: &Sizes,
+) -> Result<Found, AllocError>
+    requires clauses { HasItsClauses own.now }
+    requires sizes { AreSizes own.now.program.now.preds sizes.now.rows }
+    ensures { IfOk result (λ f. slice_get own.now.comps.now.recursive own.now.number ≡ Some true
+        → IsFound (N.expression norm.now) own.now.program.now own.now.comps.now
+        (rows_of sizes.now.rows) own.now.number f) }
 {
-    if !measured.comps.recursive(c) {
+    if !own.comps.recursive(own.number) {
         return Ok(Found::nothing(alloc));
     }
-    level_dual::mappings(alloc, measured.p, measured.comps, c, &measured.norm, sizes)
+    component_mappings(alloc, own, norm, sizes)
 }
 
 /// What is found of the mappings of each component.
@@ -186,9 +192,16 @@ fn find_all(
     ensures { IfOk result (AreFound
         (any_row measured.now.norm) measured.now.p.now measured.now.comps.now sizes.now.rows) }
 {
+    let own = own_clauses(alloc, measured.p, measured.comps)?;
     let mut found = Sequence::new(alloc);
     for c in 0..measured.comps.count() {
-        found.push(find(alloc, measured, c, sizes)?)?;
+        let component = ComponentClauses {
+            program: measured.p,
+            comps: measured.comps,
+            number: c,
+            clauses: own[c as usize].as_slice(),
+        };
+        found.push(find(alloc, &component, &measured.norm, sizes)?)?;
     }
     Ok(found)
 }

@@ -18,7 +18,7 @@ use Rattle.linear_rows.specs.declared.multipliers.Multipliers.{Multipliers}
 use Rattle.linear_rows.specs.declared.row.Rows.{Rows}
 use Rattle.linear_rows.proofs.Members.{in-flat_map, in-map, of-flat_map, to_All}
 use Rattle.termination_model.specs.chains.Runs.{is_before}
-use Rattle.numeric_model.specs.Running.{paired, with_clause, with_clauses}
+use Rattle.component_clauses.specs.Numbered.{paired, with_clause, with_clauses}
 use Rattle.numeric_model.specs.declared.step.Step.{Step}
 use Rattle.termination_model.specs.chains.Chain.{clauses_of, component_of}
 use Rattle.termination_model.specs.grounds.Grounds.{HasArity}

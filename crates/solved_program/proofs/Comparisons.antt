@@ -9,7 +9,7 @@ use Rattle.cti_terms.specs.declared.clauses.Clause.{Clause}
 use Rattle.cti_terms.specs.declared.predicates.Pred.{Pred}
 use Rattle.linear_rows.specs.Plain.{plain_row, plain_rows}
 use Rattle.linear_rows.specs.declared.row.Row.{Row}
-use Rattle.numeric_model.specs.Running.{paired, with_clauses}
+use Rattle.component_clauses.specs.Numbered.{paired, with_clauses}
 use Rattle.termination_model.proofs.Lists.{mapped_place, one_element, place_below, there}
 use Rattle.solved_program.specs.Comparing.{AreNumbersIn, AreTheSameCalls, AreTheSameClauses, HaveSameClause, HaveSameClauses, IsTheSameCall, IsTheSameClause}
 use Rattle.solved_program.specs.Kept.{AreKept}

@@ -10,7 +10,7 @@ use Rattle.cti_terms.specs.declared.predicates.Pred.{Pred}
 use Rattle.linear_rows.specs.Members.{In}
 use Rattle.linear_rows.specs.declared.multipliers.Multipliers.{Multipliers}
 use Rattle.linear_rows.specs.declared.row.Rows.{Rows}
-use Rattle.numeric_model.specs.Running.{with_clauses, paired}
+use Rattle.component_clauses.specs.Numbered.{with_clauses, paired}
 use Rattle.numeric_model.specs.declared.step.Step.{Step}
 use Rattle.termination_model.specs.chains.Chain.{clauses_of}
 use Rattle.termination_model.specs.sizes.Sizes.{AreSizes, plain_or_none, rows_of}

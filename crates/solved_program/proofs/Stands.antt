@@ -6,7 +6,7 @@ use Rattle.cti_terms.specs.Listing.{Listing, IsProgram}
 use Rattle.cti_terms.specs.declared.atom_list.Atom.{Atom}
 use Rattle.cti_terms.specs.declared.clauses.Clause.{Clause}
 use Rattle.linear_rows.specs.Members.{In}
-use Rattle.numeric_model.specs.Running.{paired, with_clauses}
+use Rattle.component_clauses.specs.Numbered.{paired, with_clauses}
 use Rattle.termination_model.specs.chains.Chain.{clauses_of}
 use Rattle.termination_model.proofs.ChainLeaves.{body_before}
 use Rattle.solved_program.specs.Comparing.{AreNumbersIn}

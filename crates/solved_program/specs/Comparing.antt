@@ -5,7 +5,7 @@ use Rattle.std.specs.List.{AllByRecursion}
 use Rattle.cti_terms.specs.Listing.{Listing}
 use Rattle.cti_terms.specs.declared.atom_list.Atom.{Atom}
 use Rattle.cti_terms.specs.declared.clauses.Clause.{Clause}
-use Rattle.numeric_model.specs.Running.{with_clauses}
+use Rattle.component_clauses.specs.Numbered.{with_clauses}
 use Rattle.solved_program.specs.Kept.{IsEdit}
 use Rattle.solved_program.specs.Marks.{is_marked, itself}
 use Rattle.solved_program.specs.Standing.{AreSameCalls, AreSameClauses, IsSameCall, IsSameClause}

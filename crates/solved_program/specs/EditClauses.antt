@@ -3,7 +3,7 @@
 use Rattle.std.specs.Prelude.{◌≡◌, ℕ, ◌-◌, List, slice_get, Some}
 use Rattle.call_components.specs.Partition.{IsIn}
 use Rattle.cti_terms.specs.declared.clauses.Clause.{Clause}
-use Rattle.numeric_model.specs.Running.{AreOwnClauses}
+use Rattle.component_clauses.specs.Numbered.{AreOwnClauses}
 use Rattle.solved_program.specs.Kept.{IsEdit}
 use Rattle.solved_program.specs.declared.edit_clauses.EditClauses.{EditClauses}
 

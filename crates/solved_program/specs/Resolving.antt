@@ -6,7 +6,8 @@ use Rattle.cti_terms.specs.Listing.{Listing}
 use Rattle.cti_terms.specs.Tree.{Tree}
 use Rattle.numeric_model.specs.Parts.{IsPartOf}
 use Rattle.numeric_model.specs.Ready.{IsReady}
-use Rattle.numeric_model.specs.Running.{AreOwnClauses, rows_in}
+use Rattle.component_clauses.specs.Numbered.{AreOwnClauses}
+use Rattle.numeric_model.specs.Running.{rows_in}
 use Rattle.numeric_model.specs.States.{plain_step}
 use Rattle.numeric_model.specs.declared.chain.Chain.{Chain}
 use Rattle.numeric_model.specs.declared.state.State.{State}

@@ -13,9 +13,9 @@ use crate::edit::Edit;
 use crate::edit_clauses::EditClauses;
 use crate::marking::{mark_all, mark_same_sets};
 use bool_diagrams::{Diagram, Table};
+use component_clauses::own_clauses;
 use cti_terms::PredId;
 use groundness::{ClauseLists, Marks, Setting, heads, solve_component, users};
-use numeric_model::own_clauses;
 use std::alloc::{AllocError, Global};
 use term_size::Norm;
 

@@ -1,5 +1,5 @@
 use Rattle.std.proofs.Common.{subst, sym}
-use Rattle.numeric_model.specs.Running.{AreOwnClauses}
+use Rattle.component_clauses.specs.Numbered.{AreOwnClauses}
 use Rattle.carried_mappings.proofs.resolving.resolve_mappings.Goals as goal
 
 pub resolve_sources-requires-clause-sources : goal.resolve_sources-requires-clause-sources

@@ -21,14 +21,14 @@ use Rattle.level_systems.proofs.component_calls.collect.Goals as goal
 
 pub positions_of-requires : goal.positions_of-requires
 positions_of-requires g c =
-    subst (λ (ps : List PredId). AllByRecursion (λ (q : ℕ). q < length c.args.p.now.preds) (map number_of ps)) (sym c.as_slice.ensures.value)
-    (subst (AllByRecursion (λ (q : ℕ). q < length c.args.p.now.preds)) (sym c.in_ok-by_clauses.ensures) (clause_members_below c.args.p.now c.args.comps.now c.args.c c.preds.ensures.sound))
+    subst (λ (ps : List PredId). AllByRecursion (λ (q : ℕ). q < length c.args.own.now.program.now.preds) (map number_of ps)) (sym c.as_slice.ensures.value)
+    (subst (AllByRecursion (λ (q : ℕ). q < length c.args.own.now.program.now.preds)) (sym c.in_ok-by_clauses.ensures) (clause_members_below c.args.own.now.program.now c.args.own.now.comps.now c.args.own.now.number c.preds.ensures.sound))
 
 pub returns-clause-sound : goal.returns-clause-sound
 returns-clause-sound g c =
-    let p = c.args.p.now in
-    let comps = c.args.comps.now in
-    let number = c.args.c in
+    let p = c.args.own.now.program.now in
+    let comps = c.args.own.now.comps.now in
+    let number = c.args.own.now.number in
     let e = g.N.Norm.expression c.args.norm.now in
     let rows = rows_of c.args.sizes.now.rows in
     let members = map number_of c.in_ok-members.members.items in
@@ -39,18 +39,18 @@ returns-clause-sound g c =
     let order : map spelled c.in_ok-order.order.items ≡ positions_by (arity_in p) mine = c.in_ok-order.ensures ∙ ap (λ (ps : List PredId). positions_by (arity_in p) (map number_of ps)) c.as_slice.ensures.value in
     let held : AllByRecursion (IsHeldIn e p rows comps number) c.in-Some.calls.items = subst (λ o. IfSome o (λ calls. AllByRecursion (IsHeldIn e p rows comps number) calls.items)) c.in-Some.is c.in_ok-calls.ensures.held in
     record {
-      members = are_below p comps number members c.requires.components at;
+      members = are_below p comps number members c.requires.clauses.components at;
       apart = apart;
       distinct = subst AreDistinct (sym order) (positions_are_distinct (arity_in p) mine apart);
       calls = subst (λ (ms : List ℕ). AllByRecursion (IsSoundCall p ms) c.in-Some.calls.items) same
-          (all_map (IsHeldIn e p rows comps number) (IsSoundCall p (members_in comps number)) (sound_call e p c.preds.ensures.sound comps c.requires.components rows number) c.in-Some.calls.items held);
+          (all_map (IsHeldIn e p rows comps number) (IsSoundCall p (members_in comps number)) (sound_call e p c.preds.ensures.sound comps c.requires.clauses.components rows number) c.in-Some.calls.items held);
     }
 
 pub returns-clause-component : goal.returns-clause-component
 returns-clause-component g c =
-    let p = c.args.p.now in
-    let comps = c.args.comps.now in
-    let number = c.args.c in
+    let p = c.args.own.now.program.now in
+    let comps = c.args.own.now.comps.now in
+    let number = c.args.own.now.number in
     let e = g.N.Norm.expression c.args.norm.now in
     let rows = rows_of c.args.sizes.now.rows in
     let members = map number_of c.in_ok-members.members.items in
@@ -60,8 +60,8 @@ returns-clause-component g c =
     record {
       norm = g.met.N.Norm.laws c.args.norm.now;
       program = c.preds.ensures.sound;
-      components = c.requires.components;
-      inner = c.requires.inner;
+      components = c.requires.clauses.components;
+      inner = c.requires.clauses.inner;
       recursive = c.requires.recursive;
       members = sym (indexed comps.members number members [] at);
       by_clauses = c.in_ok-by_clauses.ensures ∙ members_are e p comps rows number;

@@ -1,6 +1,7 @@
 use Rattle.std.proofs.Common.{◌≡◌, ◌+◌, ℕ, List, ap, arith, length, slice_get, subst, sym, inl, inr, ◌∙◌}
 use Rattle.std.proofs.lemmas.List.{length_push}
 use Rattle.cert_assembly.proofs.PlaceLaws.{none_listed, pushed}
+use Rattle.component_clauses.proofs.OwnClauses.{its_clauses}
 use Rattle.lex_turns.specs.FoundLists.{AreFoundLists}
 use Rattle.lex_turns.specs.declared.found_lists.FoundLists.{FoundLists}
 use Rattle.term_size.specs.AnyNorm.{any_row}
@@ -12,6 +13,10 @@ loop-c-init c = (
   ap length c.new-found.ensures,
   λ i f e r. absurd (none_listed c.new-found.result c.new-found.ensures i f e),
 )
+
+pub find-requires-clause-clauses : goal.find-requires-clause-clauses
+find-requires-clause-clauses c =
+    its_clauses _ c.in_ok-own.own.items c.requires.components c.in_ok-own.ensures (omega (arith, c.count-c-end.ensures, c.loop-c-test.true, c.loop-c.auto.c-end)) c.index.result.now (sym (c.as_slice.ensures ∙ c.index.ensures))
 
 pub loop-c-preserved : goal.loop-c-preserved
 loop-c-preserved c =

@@ -15,27 +15,27 @@ use Rattle.lex_turns.proofs.lists.search.Goals as goal
 pub returns-in_default : goal.returns-in_default
 returns-in_default g c =
     let e = g.N.Norm.expression c.args.norm.now in
-    let p = c.args.p.now in
-    let comps = c.args.comps.now in
+    let p = c.args.own.now.program.now in
+    let comps = c.args.own.now.comps.now in
     let rows = rows_of c.args.sizes.now.rows in
     let items = c.in_ok-positions.positions.items in
-    let long : length items ≡ count e p comps rows c.args.c = sym (length-map items spelled) ∙ ap length c.in_ok-positions.ensures in
+    let long : length items ≡ count e p comps rows c.args.own.now.number = sym (length-map items spelled) ∙ ap length c.in_ok-positions.ensures in
     let large = subst (λ (n : ℕ). IsTrue c.is_large-large.result ↔ (12 < n)) (ap length c.as_slice.ensures.value ∙ long) c.is_large-large.ensures in
-    let full : c.in_ok-full.full ≡ columns 1 (count e p comps rows c.args.c) = c.in_ok-full.ensures.numbers ∙ ap (columns 1) (c.count_of.ensures ∙ ap length c.as_slice-2.ensures.value ∙ long) in
-    if_ok c.nothing_decided.result (λ f is. undecided_are e p comps rows c.args.c c.is_large-large.result large (λ s. let w = c.in_ok-component.ensures.given_up c.in_default.is in (all_given_up e p comps rows c.args.c w s, inl (all_blown e p comps rows c.args.c w s))) c.in_ok-full.full full f is) c.nothing_decided.ensures
+    let full : c.in_ok-full.full ≡ columns 1 (count e p comps rows c.args.own.now.number) = c.in_ok-full.ensures.numbers ∙ ap (columns 1) (c.count_of.ensures ∙ ap length c.as_slice-2.ensures.value ∙ long) in
+    if_ok c.nothing_decided.result (λ f is. undecided_are e p comps rows c.args.own.now.number c.is_large-large.result large (λ s. let w = c.in_ok-component.ensures.given_up c.in_default.is in (all_given_up e p comps rows c.args.own.now.number w s, inl (all_blown e p comps rows c.args.own.now.number w s))) c.in_ok-full.full full f is) c.nothing_decided.ensures
 
 pub find-requires-clause-full : goal.find-requires-clause-full
 find-requires-clause-full g c =
     let e = g.N.Norm.expression c.args.norm.now in
     let size = g.N.Norm.size c.args.norm.now in
     let truth = g.N.Norm.truth c.args.norm.now in
-    let p = c.args.p.now in
-    let comps = c.args.comps.now in
+    let p = c.args.own.now.program.now in
+    let comps = c.args.own.now.comps.now in
     let rows = rows_of c.args.sizes.now.rows in
     let items = c.in_ok-positions.positions.items in
-    let long : length items ≡ count e p comps rows c.args.c = sym (length-map items spelled) ∙ ap length c.in_ok-positions.ensures in
-    let x = subst (λ o. IfSome o (IsComponent size truth e p comps rows c.args.c)) c.in-Some.is c.in_ok-component.ensures.component in
-    let same : count e p comps rows c.args.c ≡ length c.in-Some.component.positions.items = sym (ap length x.positions) ∙ length-map c.in-Some.component.positions.items spelled in
+    let long : length items ≡ count e p comps rows c.args.own.now.number = sym (length-map items spelled) ∙ ap length c.in_ok-positions.ensures in
+    let x = subst (λ o. IfSome o (IsComponent size truth e p comps rows c.args.own.now.number)) c.in-Some.is c.in_ok-component.ensures.component in
+    let same : count e p comps rows c.args.own.now.number ≡ length c.in-Some.component.positions.items = sym (ap length x.positions) ∙ length-map c.in-Some.component.positions.items spelled in
     c.in_ok-full.ensures.numbers ∙ ap (columns 1) (c.count_of.ensures ∙ ap length c.as_slice-2.ensures.value ∙ long ∙ same)
 
 pub returns : goal.returns
@@ -43,8 +43,8 @@ returns g c =
     let e = g.N.Norm.expression c.args.norm.now in
     let size = g.N.Norm.size c.args.norm.now in
     let truth = g.N.Norm.truth c.args.norm.now in
-    let p = c.args.p.now in
-    let comps = c.args.comps.now in
+    let p = c.args.own.now.program.now in
+    let comps = c.args.own.now.comps.now in
     let rows = rows_of c.args.sizes.now.rows in
-    let x = subst (λ o. IfSome o (IsComponent size truth e p comps rows c.args.c)) c.in-Some.is c.in_ok-component.ensures.component in
-    c.in_ok-found.ensures comps c.args.c x
+    let x = subst (λ o. IfSome o (IsComponent size truth e p comps rows c.args.own.now.number)) c.in-Some.is c.in_ok-component.ensures.component in
+    c.in_ok-found.ensures comps c.args.own.now.number x

@@ -1,7 +1,7 @@
 use Rattle.std.proofs.Common.{◌≡◌, ◌<◌, length, slice_get, arith}
 use Rattle.termination_model.specs.chains.Runs.{is_before}
 use Rattle.numeric_model.proofs.Below.{put_all, put_more, put_none, sizes_if}
-use Rattle.numeric_model.proofs.OwnClauses.{some_at}
+use Rattle.component_clauses.proofs.OwnClauses.{some_at}
 use Rattle.numeric_model.proofs.component.put_below.Goals as goal
 
 pub loop-q-init : goal.loop-q-init

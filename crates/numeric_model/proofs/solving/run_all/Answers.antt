@@ -1,9 +1,10 @@
-use Rattle.std.proofs.Common.{◌≡◌, ◌≤◌, ◌<◌, ◌∙◌, ◌+◌, ℕ, List, Some, ap, arith, length, refl, slice_get, subst, sym}
+use Rattle.std.proofs.Common.{◌≡◌, ◌<◌, ◌∙◌, ◌+◌, ℕ, List, Some, ap, arith, length, refl, slice_get, subst, sym}
 use Rattle.termination_model.proofs.Lists.{there}
-use Rattle.std.specs.List.{AllByRecursion}
 use Rattle.cti_terms.specs.declared.clauses.Clause.{Clause}
 use Rattle.termination_model.specs.chains.Chain.{clauses_of}
-use Rattle.numeric_model.specs.Running.{IsRun, with_clauses}
+use Rattle.component_clauses.specs.Numbered.{with_clauses}
+use Rattle.component_clauses.proofs.OwnClauses.{its_clauses}
+use Rattle.numeric_model.specs.Running.{IsRun}
 use Rattle.numeric_model.specs.States.{IsState, every, own_from}
 use Rattle.numeric_model.proofs.Chaining.{chained_none, chained_more, from_more, weaker}
 use Rattle.numeric_model.proofs.Repeats.{none_legal}
@@ -18,14 +19,7 @@ loop-c-init g c = record {
 
 pub run_passes-requires-clause-component : goal.run_passes-requires-clause-component
 run_passes-requires-clause-component g c =
-    let below : c.loop-c.c < length c.in_ok-own.own.items = omega (arith, c.in_ok-own.ensures.each, c.count-c-end.ensures, c.loop-c-test.true, c.loop-c.auto.c-end) in
-    let at : slice_get c.in_ok-own.own.items c.loop-c.c ≡ Some c.index.result.now = there c.in_ok-own.own.items c.loop-c.c c.index.result.now below ∙ ap Some (sym c.index.ensures) in
-    record {
-      components = c.requires;
-      inner = omega (arith, c.count-c-end.ensures, c.loop-c-test.true, c.loop-c.auto.c-end);
-      within = subst (AllByRecursion (λ k. (1 ≤ k) × (k ≤ length c.args.p.now.clauses))) (sym c.as_slice.ensures) (c.in_ok-own.ensures.within c.loop-c.c c.index.result.now at);
-      clauses_are = ap (with_clauses c.args.p.now.clauses) c.as_slice.ensures ∙ c.in_ok-own.ensures.clauses c.loop-c.c c.index.result.now at;
-    }
+    its_clauses _ c.in_ok-own.own.items c.requires c.in_ok-own.ensures (omega (arith, c.count-c-end.ensures, c.loop-c-test.true, c.loop-c.auto.c-end)) c.index.result.now (sym (c.as_slice.ensures ∙ c.index.ensures))
 
 pub loop-c-preserved : goal.loop-c-preserved
 loop-c-preserved g c =
@@ -33,11 +27,11 @@ loop-c-preserved g c =
     let at : slice_get c.in_ok-own.own.items c.loop-c.c ≡ Some c.index.result.now = there c.in_ok-own.own.items c.loop-c.c c.index.result.now below ∙ ap Some (sym c.index.ensures) in
     let own : with_clauses c.args.p.now.clauses c.as_slice.result.now ≡ clauses_of c.args.p.now c.args.comps.now c.loop-c.c =
     ap (with_clauses c.args.p.now.clauses) c.as_slice.ensures ∙ c.in_ok-own.ensures.clauses c.loop-c.c c.index.result.now at in
-    let run = subst (λ (ks : List (ℕ × Clause)). IsRun g.D.Domain.width g.D.Domain.listed g.D.Domain.speaks (g.N.Norm.expression c.args.norm.now) ks c.loop-c.state c.run_passes.new.state) own c.in_ok-run_passes.ensures.run in
+    let run = subst (λ (ks : List (ℕ × Clause)). IsRun g.D.Domain.width g.D.Domain.listed g.D.Domain.speaks (g.N.Norm.expression c.args.norm.now) ks c.loop-c.state c.run_passes.new.self) own c.in_ok-run_passes.ensures.run in
     record {
-      state = weaker g.D.Domain.width g.D.Domain.listed (own_from c.args.comps.now c.loop-c.c) (own_from c.args.comps.now (c.loop-c.c + 1)) c.args.p.now c.run_passes.new.state (λ q o. from_more c.args.comps.now c.loop-c.c q o) c.in_ok-run_passes.ensures.state;
+      state = weaker g.D.Domain.width g.D.Domain.listed (own_from c.args.comps.now c.loop-c.c) (own_from c.args.comps.now (c.loop-c.c + 1)) c.args.p.now c.run_passes.new.self (λ q o. from_more c.args.comps.now c.loop-c.c q o) c.in_ok-run_passes.ensures.state;
       legal = c.in_ok-run_passes.ensures.legal;
-      chained = chained_more g.D.Domain.width g.D.Domain.listed g.D.Domain.speaks (g.N.Norm.expression c.args.norm.now) c.args.p.now c.args.comps.now c.clauses-program.ensures.sound c.requires c.loop-c.c c.loop-c.state c.run_passes.new.state
+      chained = chained_more g.D.Domain.width g.D.Domain.listed g.D.Domain.speaks (g.N.Norm.expression c.args.norm.now) c.args.p.now c.args.comps.now c.clauses-program.ensures.sound c.requires c.loop-c.c c.loop-c.state c.run_passes.new.self
           c.loop-c.invariant.chained run g.met.D.Domain.laws.1 g.met.D.Domain.laws.2 c.in_ok-run_passes.ensures.state;
     }
 

@@ -5,6 +5,7 @@ use Rattle.level_systems.specs.declared.found.Found.{Found}
 use Rattle.term_size.specs.AnyNorm.{any_row}
 use Rattle.termination_model.specs.sizes.Sizes.{rows_of}
 use Rattle.cert_assembly.proofs.PlaceLaws.{none_listed, pushed}
+use Rattle.component_clauses.proofs.OwnClauses.{its_clauses}
 use Rattle.report.proofs.assembling.find_all.Goals as goal
 
 pub loop-c-init : goal.loop-c-init
@@ -12,6 +13,10 @@ loop-c-init c = (
   ap length c.new-found.ensures,
   λ i f e r. absurd (none_listed c.new-found.result c.new-found.ensures i f e),
 )
+
+pub find-requires-clause-clauses : goal.find-requires-clause-clauses
+find-requires-clause-clauses c =
+    its_clauses _ c.in_ok-own.own.items c.requires.components c.in_ok-own.ensures (omega (arith, c.count-c-end.ensures, c.loop-c-test.true, c.loop-c.auto.c-end)) c.index.result.now (sym (c.as_slice.ensures ∙ c.index.ensures))
 
 pub loop-c-preserved : goal.loop-c-preserved
 loop-c-preserved c =

@@ -23,4 +23,4 @@ returns-in-Some-clause-found g c =
 
 pub returns-in-None-clause-kept : goal.returns-in-None-clause-kept
 returns-in-None-clause-kept g c =
-    if_ok_is (IsKept c.args.self.now c.args.c) (λ f d x stands found. absurd (c.in-None.ensures.none refl d stands)) c.mappings.result
+    if_ok_is (IsKept c.args.self.now c.args.c) (λ f d x stands found. absurd (c.in-None.ensures.none refl d stands)) c.searched.result

@@ -15,20 +15,20 @@ run_passes-requires-clause-legal g c = none_legal g.D.Domain.speaks (g.N.Norm.ex
 pub returns-clause-ready : goal.returns-clause-ready
 returns-clause-ready g c =
     let own = c.args.own.now in
-    let run = subst (λ (ks : List (ℕ × Clause)). IsRun g.D.Domain.width g.D.Domain.listed g.D.Domain.speaks (g.N.Norm.expression c.args.norm.now) ks c.args.self.now c.run_passes.new.state) c.requires.component.clauses_are c.in_ok-run_passes.ensures.run in
-    ready_more g.D.Domain.width g.D.Domain.listed g.D.Domain.speaks (g.N.Norm.expression c.args.norm.now) own.program.now own.comps.now c.clauses-program.ensures.sound c.requires.component.components own.number c.args.self.now c.run_passes.new.state run
+    let run = subst (λ (ks : List (ℕ × Clause)). IsRun g.D.Domain.width g.D.Domain.listed g.D.Domain.speaks (g.N.Norm.expression c.args.norm.now) ks c.args.self.now c.run_passes.new.self) c.requires.component.clauses_are c.in_ok-run_passes.ensures.run in
+    ready_more g.D.Domain.width g.D.Domain.listed g.D.Domain.speaks (g.N.Norm.expression c.args.norm.now) own.program.now own.comps.now c.clauses-program.ensures.sound c.requires.component.components own.number c.args.self.now c.run_passes.new.self run
     _ c.requires.ready c.in_ok-run_passes.ensures.state refl refl refl (c.replace.ensures.after ∙ c.new.ensures)
 
 pub returns-clause-part : goal.returns-clause-part
 returns-clause-part g c =
     let own = c.args.own.now in
-    let run = subst (λ (ks : List (ℕ × Clause)). IsRun g.D.Domain.width g.D.Domain.listed g.D.Domain.speaks (g.N.Norm.expression c.args.norm.now) ks c.args.self.now c.run_passes.new.state) c.requires.component.clauses_are c.in_ok-run_passes.ensures.run in
+    let run = subst (λ (ks : List (ℕ × Clause)). IsRun g.D.Domain.width g.D.Domain.listed g.D.Domain.speaks (g.N.Norm.expression c.args.norm.now) ks c.args.self.now c.run_passes.new.self) c.requires.component.clauses_are c.in_ok-run_passes.ensures.run in
     part_of g.D.Domain.width g.D.Domain.listed g.D.Domain.speaks (g.N.Norm.expression c.args.norm.now) own.program.now own.comps.now c.clauses-program.ensures.sound c.requires.component.components
-    g.met.D.Domain.laws.1 g.met.D.Domain.laws.2 own.number (rows_in c.args.self.now) c.args.self.now c.run_passes.new.state run c.in_ok-run_passes.ensures.state
+    g.met.D.Domain.laws.1 g.met.D.Domain.laws.2 own.number (rows_in c.args.self.now) c.args.self.now c.run_passes.new.self run c.in_ok-run_passes.ensures.state
     (rows_ready g.D.Domain.width g.D.Domain.listed own.program.now own.comps.now own.number c.args.self.now c.requires.ready) c.requires.ready.none _ refl refl c.replace.ensures.value
 
 pub returns-clause-others : goal.returns-clause-others
 returns-clause-others g c =
     let own = c.args.own.now in
-    let run = subst (λ (ks : List (ℕ × Clause)). IsRun g.D.Domain.width g.D.Domain.listed g.D.Domain.speaks (g.N.Norm.expression c.args.norm.now) ks c.args.self.now c.run_passes.new.state) c.requires.component.clauses_are c.in_ok-run_passes.ensures.run in
-    other_rows g.D.Domain.width g.D.Domain.listed g.D.Domain.speaks (g.N.Norm.expression c.args.norm.now) own.program.now own.comps.now c.clauses-program.ensures.sound c.requires.component.components own.number c.args.self.now c.run_passes.new.state run
+    let run = subst (λ (ks : List (ℕ × Clause)). IsRun g.D.Domain.width g.D.Domain.listed g.D.Domain.speaks (g.N.Norm.expression c.args.norm.now) ks c.args.self.now c.run_passes.new.self) c.requires.component.clauses_are c.in_ok-run_passes.ensures.run in
+    other_rows g.D.Domain.width g.D.Domain.listed g.D.Domain.speaks (g.N.Norm.expression c.args.norm.now) own.program.now own.comps.now c.clauses-program.ensures.sound c.requires.component.components own.number c.args.self.now c.run_passes.new.self run

@@ -2,7 +2,7 @@
 
 ghost use Rattle.std.specs.Prelude.{◌≡◌, ◌<◌, ◌++◌, ◌∷◌, [], IfOk, OnOk, length, replicate, slice_index_or, slice_set};
 ghost use Rattle.call_components.specs.Partition.{AreComponents};
-ghost use Rattle.numeric_model.specs.Running.{AreOwnClauses};
+ghost use Rattle.component_clauses.specs.Numbered.{AreOwnClauses};
 
 use call_components::Components;
 use cti_terms::Program;

@@ -1,6 +1,6 @@
 use Rattle.std.proofs.Common.{◌≡◌, ◌+◌, ◌-◌, ◌<◌, length, slice_get, Some, subst, ap, sym, ◌∙◌, arith}
-use Rattle.numeric_model.proofs.OwnClauses.{AreOwnUpTo, none_own, own_pushed, own_whole}
-use Rattle.numeric_model.proofs.clause_lists.own_clauses.Goals as goal
+use Rattle.component_clauses.proofs.OwnClauses.{AreOwnUpTo, none_own, own_pushed, own_whole}
+use Rattle.component_clauses.proofs.clause_lists.own_clauses.Goals as goal
 
 pub loop-i-init : goal.loop-i-init
 loop-i-init c = none_own c.args.p.now c.args.comps.now c.count.result c.in_ok-lists.lists.items c.count.ensures c.in_ok-lists.ensures

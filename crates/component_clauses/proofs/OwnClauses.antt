@@ -1,19 +1,19 @@
 -- Clauses by their numbers, and those of a component.
-use Rattle.std.proofs.Common.{◌≡◌, ℕ, zero, suc, ◌+◌, ◌-◌, ◌<◌, ◌≤◌, ◌==◌, ◌⊎◌, Bool, true, false, if◌then◌else◌, List, [], ◌∷◌, ◌++◌, length, replicate, take, slice_get, slice_index_or, slice_set, Option, None, Some, inl, inr, refl, ap, sym, subst, ◌∙◌, arith, eq-eqb, eqb-true}
+use Rattle.std.proofs.Common.{◌≡◌, ℕ, zero, suc, ◌+◌, ◌-◌, ◌<◌, ◌≤◌, ◌==◌, ◌⊎◌, Bool, true, false, if◌then◌else◌, List, [], ◌∷◌, ◌++◌, length, replicate, take, slice_get, slice_index_or, slice_set, Option, Some, inl, inr, refl, ap, sym, subst, ◌∙◌, arith, eq-eqb, eqb-true}
 use Rattle.std.specs.List.{filter, AllByRecursion}
 use Rattle.std.proofs.lemmas.Bool.{cases_eq}
 use Rattle.std.proofs.lemmas.List.{length-replicate, length-set}
 use Rattle.std.proofs.lemmas.List.Elements.{filter-append}
 use Rattle.call_components.proofs.Lists.{slice_get-set_same, slice_get-set_other}
-use Rattle.call_components.specs.Partition.{Partition}
+use Rattle.call_components.specs.Partition.{AreComponents, Partition}
 use Rattle.cti_terms.specs.Listing.{Listing}
 use Rattle.cti_terms.specs.declared.clauses.Clause.{Clause}
 use Rattle.linear_rows.specs.Members.{In}
-use Rattle.linear_rows.proofs.Members.{of-flat_map}
+use Rattle.linear_rows.proofs.Members.{in-flat_map}
 use Rattle.termination_model.specs.chains.Chain.{clauses_of, component_of, counted, is_number}
 use Rattle.termination_model.proofs.Lists.{append_assoc, by_places, place_below, taken_more, there}
-use Rattle.numeric_model.specs.Running.{AreOwnClauses, paired, with_clause, with_clauses}
-use Rattle.numeric_model.proofs.Passes.{AreNumbered}
+use Rattle.component_clauses.specs.Numbered.{AreOwnClauses, HasItsClauses, paired, with_clause, with_clauses}
+use Rattle.component_clauses.specs.declared.component.ComponentClauses.{ComponentClauses}
 
 pub with_more : (clauses : List Clause) (own : List ℕ) (k : ℕ) → with_clauses clauses (own ++ k ∷ []) ≡ with_clauses clauses own ++ with_clause clauses k
 with_more clauses [] k = right (with_clause clauses k)
@@ -25,16 +25,6 @@ with_more clauses (x ∷ own) k = ap (λ ys. with_clause clauses x ++ ys) (with_
 
 pub with_more_at : (clauses : List Clause) (own : List ℕ) (k : ℕ) (c : Clause) → slice_get clauses (k - 1) ≡ Some c → with_clauses clauses (own ++ k ∷ []) ≡ with_clauses clauses own ++ (k, c) ∷ []
 with_more_at clauses own k c at = with_more clauses own k ∙ ap (λ (o : Option Clause). with_clauses clauses own ++ paired k o) at
-
-pub numbered_with : (clauses : List Clause) (own : List ℕ) → AreNumbered clauses (with_clauses clauses own)
-numbered_with clauses own x i =
-    let f = of-flat_map (with_clause clauses) own x i in
-    go f.0 (slice_get clauses (f.0 - 1)) refl f.2
-  where
-    go : (k : ℕ) (o : Option Clause) → slice_get clauses (k - 1) ≡ o → In x (paired k o) → slice_get clauses (x.0 - 1) ≡ Some x.1
-    go k None e i = absurd i
-    go k (Some c) e (inl is) = subst (λ (y : ℕ × Clause). slice_get clauses (y.0 - 1) ≡ Some y.1) is e
-    go k (Some c) e (inr i) = absurd i
 
 counted_more : (n : ℕ) (ks : List Clause) (c : Clause) → counted n (ks ++ c ∷ []) ≡ counted n ks ++ (n + length ks, c) ∷ []
 counted_more n [] c = let e : n ≡ n + 0 = omega arith in λ i. (e i, c) ∷ []
@@ -172,6 +162,12 @@ own_whole p comps lists is = record {
   clauses = λ c own e. is.clauses c own e ∙ own_all p comps c;
 }
 
+pub take_past : {X : Type 0} (xs : List X) (n : ℕ) → length xs ≤ n → take n xs ≡ xs
+take_past [] zero le = refl
+take_past [] (suc n) le = refl
+take_past (x ∷ xs) zero le = absurd (omega arith)
+take_past (x ∷ xs) (suc n) le = ap (λ ys. x ∷ ys) (take_past xs n (omega arith))
+
 -- the clause at a place of a list of numbers
 pub record IsNext (clauses : List Clause) (own : List ℕ) (j : ℕ) : Type 0 where
   pub clause : Clause
@@ -188,3 +184,22 @@ next_own clauses own j lt within =
       at = found.1;
       more = ap (with_clauses clauses) (taken_more own j (slice_index_or own j 0) at) ∙ with_more_at clauses (take j own) (slice_index_or own j 0) found.0 found.1;
     }
+
+-- a clause with a number of the list is one of the component
+pub own_at : (p : Listing) (comps : Partition) (c : ℕ) (own : List ℕ) → with_clauses p.clauses own ≡ clauses_of p comps c
+    → (j k : ℕ) (x : Clause) → slice_get own j ≡ Some k → slice_get p.clauses (k - 1) ≡ Some x → In (k, x) (clauses_of p comps c)
+own_at p comps c own same j k x at there =
+    subst (λ (ks : List (ℕ × Clause)). In (k, x) ks) same (in-flat_map (with_clause p.clauses) own k (k, x) (placed_in own j at) (subst (λ (o : Option Clause). In (k, x) (paired k o)) (sym there) (inl refl)))
+  where
+    placed_in : (xs : List ℕ) (j : ℕ) → slice_get xs j ≡ Some k → In k xs
+    placed_in [] j e = cc
+    placed_in (y ∷ xs) zero e = inl cc
+    placed_in (y ∷ xs) (suc j) e = inr (placed_in xs j e)
+
+-- a list among those of all components is that of its component
+pub its_clauses : (own : ComponentClauses) (lists : List (List ℕ)) → AreComponents own.program.now own.comps.now → AreOwnClauses own.program.now own.comps.now lists → own.number < length own.comps.now.members
+    → (d : List ℕ) → slice_index_or lists own.number d ≡ own.clauses.now → HasItsClauses own
+its_clauses own lists components are inner d same =
+    let each = are.each in
+    let at : slice_get lists own.number ≡ Some own.clauses.now = there lists own.number d (omega (arith, each, inner)) ∙ ap Some same in
+    record { components = components; inner = inner; within = are.within own.number own.clauses.now at; clauses_are = are.clauses own.number own.clauses.now at }
