@@ -3,6 +3,7 @@ pub mod BelowLaws
 pub mod BestLaws
 pub mod Decreasing
 pub mod ExactParts
+pub mod FallLaws
 pub mod GeneratedLaws
 pub mod Inferred
 pub mod MappingParts

@@ -2,7 +2,8 @@
 -- The parts of a certificate that the mappings of components give.
 --
 -- Nothing here has to be believed.
-use Rattle.std.specs.Prelude.{◌==◌, ◌&&◌, ℕ, suc, pos, if◌then◌else◌, List, [], ◌∷◌, length, map, slice_get, Option, None, Some, option_map, unwrap_or}
+use Rattle.std.specs.Prelude.{◌≡◌, ◌<◌, ◌⊎◌, ◌==◌, ◌&&◌, ℕ, suc, pos, if◌then◌else◌, List, [], ◌∷◌, length, map, slice_get, Option, None, Some, option_map, unwrap_or}
+use Rattle.std.specs.List.{AllByRecursion}
 use Rattle.call_components.specs.Partition.{Partition}
 use Rattle.cert_assembly.specs.Parted.{part_or_zero, zero_part}
 use Rattle.cert_structure.specs.Shape.{arity_in, head_of, body_of, is_own_call, is_recursive}
@@ -22,6 +23,17 @@ use Rattle.cert_assembly.specs.Leading.{led_by}
 abbrev pub fall_in : List Fall → ℕ → ℕ → Option Multipliers
 fall_in [] k j = None
 fall_in (f ∷ fs) k j = if (f.clause == k) && (f.call == j) then Some f.by else fall_in fs k j
+
+-- the falls before a place are of calls before this one
+abbrev pub IsPassed : List Fall → ℕ → ℕ → ℕ → Type 0
+IsPassed falls n k j = (x : ℕ) (f : Fall) → x < n → slice_get falls x ≡ Some f → (f.clause < k) ⊎ ((f.clause ≡ k) × (f.call < j))
+
+abbrev pub ArePassed : List Mapping → ℕ → ℕ → ℕ → Type 0
+ArePassed ms n k j = AllByRecursion (λ (m : Mapping). IsPassed m.falls n k j) ms
+
+-- the fall at a place is that of this call
+abbrev pub IsFallAt : List Fall → ℕ → ℕ → ℕ → Type 0
+IsFallAt falls n k j = (f : Fall) → slice_get falls n ≡ Some f → (f.clause ≡ k) × (f.call ≡ j)
 
 abbrev pub by_or_none : Option Multipliers → Multipliers
 by_or_none None = record { scale = pos 0; list = [] }
