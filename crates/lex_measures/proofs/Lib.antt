@@ -1,6 +1,7 @@
 pub mod AssembledLists
 pub mod BestLists
 pub mod ComponentLaws
+pub mod DropLaws
 pub mod DropParts
 pub mod DropShapes
 pub mod FlatParts

@@ -2,7 +2,8 @@
 -- The lists, drops and stuck sets of a certificate, of what is found of components.
 --
 -- Nothing here has to be believed.
-use Rattle.std.specs.Prelude.{ℕ, suc, false, if◌then◌else◌, List, [], ◌∷◌, length, map, slice_get, Option, None, Some, unwrap_or}
+use Rattle.std.specs.Prelude.{◌≡◌, ◌<◌, ◌⊎◌, ℕ, suc, false, if◌then◌else◌, List, [], ◌∷◌, length, map, slice_get, Option, None, Some, unwrap_or}
+use Rattle.std.specs.List.{AllByRecursion}
 use Rattle.call_components.specs.Partition.{Partition}
 use Rattle.cert_assembly.specs.Leading.{led_by}
 use Rattle.cert_assembly.specs.Parted.{part_or_zero, zero_part}
@@ -11,6 +12,7 @@ use Rattle.cti_terms.specs.Listing.{Listing}
 use Rattle.cti_terms.specs.declared.atom_list.Atom.{Atom}
 use Rattle.level_systems.specs.Mappings.{level_in}
 use Rattle.level_systems.specs.declared.measure.Measure.{Measure}
+use Rattle.lex_turns.specs.declared.call_drops.CallDrops.{CallDrops}
 use Rattle.lex_turns.specs.declared.found_lists.FoundLists.{FoundLists}
 use Rattle.lex_turns.specs.declared.measure_list.MeasureList.{MeasureList}
 use Rattle.linear_rows.specs.Step.{columns}
@@ -31,6 +33,17 @@ place_or_none (Some bys) = bys
 -- from 1
 abbrev pub place_of : ℕ → ℕ → MeasureList → List Multipliers
 place_of k j l = place_or_none (place_in l.drops k j)
+
+-- the drops before an index are of calls before this one
+abbrev pub IsPassed : List CallDrops → ℕ → ℕ → ℕ → Type 0
+IsPassed drops n k j = (x : ℕ) (d : CallDrops) → x < n → slice_get drops x ≡ Some d → (d.clause < k) ⊎ ((d.clause ≡ k) × (d.call < j))
+
+abbrev pub ArePassed : List MeasureList → ℕ → ℕ → ℕ → Type 0
+ArePassed ls n k j = AllByRecursion (λ (l : MeasureList). IsPassed l.drops n k j) ls
+
+-- the drops at an index are those of this call
+abbrev pub AreDropsAt : List CallDrops → ℕ → ℕ → ℕ → Type 0
+AreDropsAt drops n k j = (d : CallDrops) → slice_get drops n ≡ Some d → (d.clause ≡ k) × (d.call ≡ j)
 
 -- no lists, where none are searched
 abbrev pub nothing : FoundLists
