@@ -207,8 +207,9 @@ pub fn component_mappings<N: Norm>(
     Ok(found)
 }
 
-/// The mappings of a component that decrease, or why there are none, as `component_mappings` finds them. The component's
-/// clauses are looked for, which takes the time of the program.
+/// The mappings of a component that decrease, or why there are none, as `component_mappings` finds them.
+///
+/// The component's clauses are looked for first, which takes the time of the program.
 pub fn mappings<N: Norm>(
     alloc: Global,
     p: &Program,

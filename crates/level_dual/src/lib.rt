@@ -2,11 +2,11 @@
 //!
 //! A mapping gives each atom of a member a natural number: an offset and multiples of the sizes of its arguments. It
 //! decreases where the number of a clause's head is above that of each call of a member, for all sizes that obey the
-//! size rows of the atoms before the call. `component_mappings` finds the minimal supports of such mappings, or a refutation, which
-//! shows that there is none. At a set of positions, a point of one linear system is a mapping with multipliers that show
-//! its falls; multipliers that refute the system are points of the calls' variables, which rule mappings out. The falls
-//! and the refutation are tested as the check of a certificate tests them. What is found is said in `specs/Found.antt`
-//! of `level_systems`.
+//! size rows of the atoms before the call. `component_mappings` finds the minimal supports of such mappings, or a
+//! refutation, which shows that there is none. At a set of positions, a point of one linear system is a mapping with
+//! multipliers that show its falls; multipliers that refute the system are points of the calls' variables, which rule
+//! mappings out. The falls and the refutation are tested as the check of a certificate tests them. What is found is
+//! said in `specs/Found.antt` of `level_systems`.
 #![tactic(auto)]
 
 mod excluding;

@@ -64,7 +64,8 @@ fn place_of(
     Ok(Sequence::new(alloc))
 }
 
-/// The same, where it is first looked for at an index before which all drops are of earlier calls.
+/// The multipliers of a call up to its place in a list, first looked for at an index before which all drops are of
+/// earlier calls; none, where the list has none.
 fn place_at(
     alloc: Global,
     list: &MeasureList,
@@ -108,7 +109,8 @@ pub(crate) fn after_call(lists: &[MeasureList], at: usize, clause: u32, call: u3
     }
 }
 
-/// The multipliers of a call in lists, where drops before an index are of earlier calls. Clauses and calls count from 1.
+/// The multipliers of a call in lists, where all drops before an index are of earlier calls. Clauses and calls count
+/// from 1.
 pub(crate) fn places_of(
     alloc: Global,
     lists: &[MeasureList],

@@ -39,7 +39,8 @@ fn fall_of(
     })
 }
 
-/// The same, where it is first looked for at a place before which all falls are of earlier calls.
+/// The multipliers of a call in a mapping, first looked for at a place before which all falls are of earlier calls;
+/// none, where the mapping has none.
 fn fall_at(
     alloc: Global,
     mapping: &Mapping,
@@ -99,7 +100,8 @@ fn parts_of(
     Ok(parts)
 }
 
-/// The multipliers of a call in mappings, where falls before a place are of earlier calls. Clauses and calls count from 1.
+/// The multipliers of a call in mappings, where all falls before a place are of earlier calls. Clauses and calls count
+/// from 1.
 fn falls_of(
     alloc: Global,
     mappings: &[Mapping],
