@@ -84,9 +84,9 @@ cti_file_modes(File, Modes, Assumptions, Options) :-
 %     - checked: `true` where `cti check` accepted it.
 
 cti_file_answer(File, Answer, Options) :-
-    read_source(File, Source),
-    covering_program(Source, Program),
-    work_files(Source.path, PureFile, CertificateFile, Options),
+    read_sources([File], Project),
+    covering_program(Project, Program),
+    work_files(Project.path, PureFile, CertificateFile, Options),
     write_program(Program, PureFile, Names),
     option(timeout(Timeout), Options, 12),
     infer_options(Options, Timeout, InferOptions),
@@ -95,9 +95,9 @@ cti_file_answer(File, Answer, Options) :-
     read_file_to_terms(CertificateFile, Facts, []),
     program_graph(Program, Graph),
     components(Graph, Components),
-    answer(Source, Program, Names, Facts, Graph, Components, Predicates, Assumptions),
+    answer(Project, Program, Names, Facts, Graph, Components, Predicates, Assumptions),
     length(Facts, FactCount),
-    Answer = answer{file:Source.path, predicates:Predicates, assumptions:Assumptions,
+    Answer = answer{file:Project.path, predicates:Predicates, assumptions:Assumptions,
                     facts:FactCount, checked:Checked}.
 
 infer_options(Options, Timeout, [timeout(Timeout)|More]) :-
@@ -127,14 +127,15 @@ checked(PureFile, CertificateFile, Checked, Options) :-
 
 %   What is said of the file.
 
-answer(Source, Program, Names, Facts, Graph, Components, Predicates, Assumptions) :-
-    own_keys(Source, Own),
+answer(Project, Program, Names, Facts, Graph, Components, Predicates, Assumptions) :-
+    Project.sources = [Source|_],
+    own_keys(Project, Own),
     modes_by_key(Names, Facts, Modes),
     first_lines(Program, Lines),
-    notes_below(Program, Source, Components, Graph, Below),
+    notes_below(Program, Components, Graph, Below),
     findall(Note,
             (   member(Key, Own), get_assoc(Key, Below, Notes), member(Note, Notes)
-            ;   member(doubt(Line, Doubt), Source.doubts), Note = place(file, Line, Doubt)
+            ;   member(Root, Project.sources), member(doubt(Line, Doubt), Root.doubts), Note = place(file, Line, Doubt)
             ),
             Notes0),
     sort(Notes0, Notes),
@@ -167,11 +168,15 @@ by_line(Order, A, B) :-
 %   Clauses of predicates that no file can define are refused when it is
 %   loaded.
 
-own_keys(Source, Own) :-
-    assoc_to_keys(Source.clauses, Keys),
-    append([Keys, Source.dynamic], All0),
-    exclude(refused(Source), All0, All),
+own_keys(Project, Own) :-
+    maplist(keys_of_source, Project.sources, Lists),
+    append(Lists, All),
     sort(All, Own).
+
+keys_of_source(Source, Keys) :-
+    assoc_to_keys(Source.clauses, Keys0),
+    append(Keys0, Source.dynamic, Keys1),
+    exclude(refused(Source), Keys1, Keys).
 
 refused(Source, Module:Name/Arity) :-
     functor(Goal, Name, Arity),
@@ -218,25 +223,25 @@ first_line([], 0).
 first_line([clause(_, _, Line)|_], Line).
 
 
-%   notes_below(+Program, +Source, +Components, +Graph, -Below): the notes that
+%   notes_below(+Program, +Components, +Graph, -Below): the notes that
 %   each key relies on, as place(Key, Line, Doubt). Components come callees
 %   first. Doubts of the whole file are everybody's.
 
-notes_below(Program, Source, Components, Graph, Below) :-
+notes_below(Program, Components, Graph, Below) :-
     findall(Key-Places,
             ( member(predicate(Key, _, Notes), Program),
-              findall(place(Named, Line, Doubt),
-                      ( member(note(Line, Doubt), Notes), named_key(Key, Named) ),
-                      Places0),
+              findall(Place, ( member(Note, Notes), note_place(Note, Key, Place) ), Places0),
               sort(Places0, Places) ),
             Pairs),
     list_to_assoc(Pairs, Direct),
-    findall(place(file, Line, Doubt), member(doubt(Line, Doubt), Source.doubts), Everywhere0),
-    sort(Everywhere0, Everywhere),
     empty_assoc(Empty),
-    foldl(component_notes(Direct, Everywhere, Graph), Components, Empty, Below).
+    foldl(component_notes(Direct, Graph), Components, Empty, Below).
 
-component_notes(Direct, Everywhere, Graph, Component, Below0, Below) :-
+note_place(note(Line, file(Doubt)), _, place(file, Line, Doubt)) :- !.
+note_place(note(Line, Doubt), Key, place(Named, Line, Doubt)) :-
+    named_key(Key, Named).
+
+component_notes(Direct, Graph, Component, Below0, Below) :-
     findall(Notes,
             ( member(Key, Component),
               (   get_assoc(Key, Direct, Notes)
@@ -245,7 +250,7 @@ component_notes(Direct, Everywhere, Graph, Component, Below0, Below) :-
                   get_assoc(Callee, Below0, Notes)
               ) ),
             Lists),
-    ord_union([Everywhere|Lists], All),
+    ord_union(Lists, All),
     with_value(Component, All, Below0, Below).
 
 named_key(part(Key, _), Named) :-

@@ -24,27 +24,33 @@ keys part(Key, Number).
 :- use_module(library(pairs)).
 :- use_module(library(yall)).
 :- use_module(real_goals).
+:- use_module(real_modules, [start_project/0]).
 
 most_arguments(12).
 most_variables(48).
 most_shared(36).
 most_distributed(128).
 
-%!  covering_program(+Source:dict, -Program) is det.
+%!  covering_program(+Project:dict, -Program) is det.
 
-covering_program(Source, Program) :-
-    assoc_to_keys(Source.clauses, Keys0),
-    append([Keys0, Source.dynamic, Source.multifile], Keys1),
-    sort(Keys1, Keys),
+covering_program(Project, Program) :-
+    start_project,
+    maplist(source_keys, Project.sources, Lists),
+    append(Lists, Keys0),
+    sort(Keys0, Keys),
     empty_assoc(Seen),
-    cover(Keys, Source, Seen, Program, []).
+    cover(Keys, Project, Seen, Program, []).
+
+source_keys(Source, Keys) :-
+    assoc_to_keys(Source.clauses, Keys0),
+    append([Keys0, Source.dynamic, Source.multifile], Keys).
 
 cover([], _, _, Program, Program).
-cover([Key|Keys], Source, Seen0, Program0, Program) :-
+cover([Key|Keys], Project, Seen0, Program0, Program) :-
     (   get_assoc(Key, Seen0, _)
-    ->  cover(Keys, Source, Seen0, Program0, Program)
+    ->  cover(Keys, Project, Seen0, Program0, Program)
     ;   put_assoc(Key, Seen0, seen, Seen),
-        predicate_clauses(Source, Key, Pure0, Found),
+        predicate_clauses(Project, Key, Pure0, Found),
         findall(Need, member(need(Need), Found), Needs0),
         sort(Needs0, Needs),
         findall(note(Line, Doubt), member(note(Line, Doubt), Found), Notes0),
@@ -54,7 +60,7 @@ cover([Key|Keys], Source, Seen0, Program0, Program) :-
         Program0 = [predicate(Key, Clauses, Notes)|Program1],
         append(Parts, Program2, Program1),
         append(Keys, Needs, More),
-        cover(More, Source, Seen, Program2, Program)
+        cover(More, Project, Seen, Program2, Program)
     ).
 
 %   Clauses that are variants of each other are one. Facts are many where a

@@ -1,5 +1,5 @@
 :- module(real_goals,
-          [ predicate_clauses/4         % +Main, +Key, -Clauses, -Found
+          [ predicate_clauses/4         % +Project, +Key, -Clauses, -Found
           ]).
 
 /** <module> Real clauses as pure clauses that cover them
@@ -27,11 +27,10 @@ docs/real-files.md says for each doubt what is assumed.
 :- use_module(library(varnumbers)).
 :- use_module(library(yall)).
 :- use_module(real_builtins).
+:- use_module(real_modules).
 :- use_module(real_source).
 
-:- dynamic kept_library/2, kept_file/2, kept_index/2.
-
-%!  predicate_clauses(+Main:dict, +Key, -Clauses, -Found) is det.
+%!  predicate_clauses(+Project:dict, +Key, -Clauses, -Found) is det.
 
 predicate_clauses(_, prelude(Name/Arity), Clauses, Found) :-
     !,
@@ -39,20 +38,39 @@ predicate_clauses(_, prelude(Name/Arity), Clauses, Found) :-
             ( prelude(Head, Body), functor(Head, Name, Arity), Head =.. [_|Args] ),
             Clauses),
     findall(need(Key), ( member(pure(_, Body, _), Clauses), called(Body, Key) ), Found).
-predicate_clauses(Main, special(Predicate, Closures), Clauses, Found) :-
+predicate_clauses(Project, special(Predicate, Closures), Clauses, Found) :-
     !,
-    source_of(Main, Predicate, Source),
+    defining_sources(Project, Predicate, [Source]),
     source_clauses(Source, Predicate, Real),
-    phrase(special_clauses(Real, Closures, Main, Source, Predicate, Clauses), Found).
-predicate_clauses(Main, Predicate, Clauses, Found) :-
-    source_of(Main, Predicate, Source),
-    source_clauses(Source, Predicate, Real),
-    phrase(( doubts_of(Source, Predicate, Real), pure_clauses(Real, Main, Source, Predicate, Clauses0) ), Found),
-    (   comes_and_goes(Source, Predicate)
+    phrase(( file_doubts(Source), special_clauses(Real, Closures, Project, Source, Predicate, Clauses) ), Found).
+predicate_clauses(Project, Predicate, Clauses, Found) :-
+    defining_sources(Project, Predicate, Sources),
+    phrase(clauses_in_sources(Sources, Project, Predicate, Clauses0), Found),
+    (   member(Source, Sources),
+        comes_and_goes(Source, Predicate)
     ->  general_clause(Predicate, General),
         append(Clauses0, [General], Clauses)
     ;   Clauses = Clauses0
     ).
+
+clauses_in_sources([], _, _, []) --> [].
+clauses_in_sources([Source|Sources], Project, Predicate, Clauses) -->
+    { source_clauses(Source, Predicate, Real) },
+    file_doubts(Source),
+    doubts_of(Source, Project, Predicate, Real),
+    pure_clauses(Real, Project, Source, Predicate, Clauses0),
+    clauses_in_sources(Sources, Project, Predicate, Clauses1),
+    { append(Clauses0, Clauses1, Clauses) }.
+
+%   What is doubted of a file concerns each of its predicates.
+
+file_doubts(Source) -->
+    file_notes(Source.doubts).
+
+file_notes([]) --> [].
+file_notes([doubt(Line, Doubt)|Doubts]) -->
+    [note(Line, file(Doubt))],
+    file_notes(Doubts).
 
 called((A, B), Key) :-
     (   called(A, Key)
@@ -75,14 +93,39 @@ general_clause(_:_/Arity, pure(Args, true, 0)) :-
 
 %   What is doubted of a predicate as a whole.
 
-doubts_of(Source, Predicate, Real) -->
+doubts_of(Source, Project, Predicate, Real) -->
     { first_line(Real, Line) },
     doubt_if(memberchk(Predicate, Source.multifile), Line, multifile),
     doubt_if(memberchk(Predicate, Source.conditional), Line, conditional),
     doubt_if(memberchk(Predicate-moded, Source.tabled), Line, tabled),
     doubt_if(imported_by_name(Source, Predicate), Line, imported),
     doubt_if(( memberchk(Predicate, Source.transparent), has_context(Real) ), Line, transparent),
-    doubt_if(( memberchk(Predicate, Source.dynamic), Source.adds \== [] ), Line, adds).
+    doubt_if(( memberchk(Predicate, Source.dynamic), adds_unknown(Project, Source) ), Line, adds),
+    (   { is_root(Project, Source) }
+    ->  []
+    ;   adding_notes(Real, Source.adds)
+    ).
+
+%   A root, or the file itself, adds clauses that are not known. Another file
+%   may add some where a clause of it does.
+
+adds_unknown(Project, Source) :-
+    (   Source.adds \== []
+    ->  true
+    ;   root_source(Project, Root),
+        Root.adds \== []
+    ->  true
+    ).
+
+is_root(Project, Source) :-
+    root_source(Project, Root),
+    Root.path == Source.path,
+    !.
+
+adding_notes([], _) --> [].
+adding_notes([clause(Line, _, _)|Real], Adds) -->
+    doubt_if(memberchk(doubt(Line, asserts), Adds), Line, asserts),
+    adding_notes(Real, Adds).
 
 doubt_if(Condition, Line, Doubt) -->
     (   { call(Condition) }
@@ -116,12 +159,12 @@ imported_by_name(Source, Module:PI) :-
     !.
 
 pure_clauses([], _, _, _, []) --> [].
-pure_clauses([clause(Line, Head, Body)|Real], Main, Source, Module:PI, [pure(Args, Pure, Line)|Clauses]) -->
+pure_clauses([clause(Line, Head, Body)|Real], Project, Source, Module:PI, [pure(Args, Pure, Line)|Clauses]) -->
     { Head =.. [_|Args0],
       maplist(pure_term, Args0, Args),
-      Context = context{main:Main, source:Source, module:Module, line:Line, numbers:[]} },
+      Context = context{project:Project, source:Source, module:Module, line:Line, numbers:[]} },
     body(Body, Context, Pure),
-    pure_clauses(Real, Main, Source, Module:PI, Clauses).
+    pure_clauses(Real, Project, Source, Module:PI, Clauses).
 
 %   A fact has no body to rewrite.
 
@@ -138,7 +181,7 @@ body(Body, Context, Pure) -->
 %   which real_source lets stand in no file.
 
 special_clauses([], _, _, _, _, []) --> [].
-special_clauses([Real|Rest], Closures, Main, Source, Predicate, [pure(Args, Pure, Line)|Clauses]) -->
+special_clauses([Real|Rest], Closures, Project, Source, Predicate, [pure(Args, Pure, Line)|Clauses]) -->
     { copy_term_nat(Real, clause(Line, Head, Body)),
       Head =.. [_|Args0],
       fresh_closures(Closures, Fresh, Variables),
@@ -146,9 +189,9 @@ special_clauses([Real|Rest], Closures, Main, Source, Predicate, [pure(Args, Pure
       append(Args1, Variables, Args2),
       maplist(pure_term, Args2, Args),
       Predicate = Module:_,
-      Context = context{main:Main, source:Source, module:Module, line:Line, numbers:[]} },
+      Context = context{project:Project, source:Source, module:Module, line:Line, numbers:[]} },
     body(Body, Context, Pure),
-    special_clauses(Rest, Closures, Main, Source, Predicate, Clauses).
+    special_clauses(Rest, Closures, Project, Source, Predicate, Clauses).
 
 %   Closures are kept with '$VAR'(I) for their variables, in order.
 
@@ -162,38 +205,6 @@ bind_closures([-|Cs], [A|As], [A|Bs]) :-
     bind_closures(Cs, As, Bs).
 bind_closures([C|Cs], [C|As], Bs) :-
     bind_closures(Cs, As, Bs).
-
-
-%!  source_of(+Main, +Predicate, -Source) is semidet.
-
-source_of(Main, Module:PI, Source) :-
-    (   is_defined(Main, Module:PI)
-    ->  Source = Main
-    ;   module_source(Main, Module, Source)
-    ).
-
-module_source(Main, Module, Source) :-
-    (   Module == Main.module
-    ->  Source = Main
-    ;   atom_concat(plunit_, _, Module)
-    ->  Source = Main
-    ;   library_source(Module, Source)
-    ).
-
-library_source(Module, Source) :-
-    kept_library(Module, Source),
-    !.
-library_source(Module, Source) :-
-    is_read_library(Module),
-    library_of(Module, Spec),
-    read_source(Spec, Source0),
-    % These files were looked at: what they rewrite does not concern them.
-    Source = Source0.put(_{expansions:[], doubts:[]}),
-    assertz(kept_library(Module, Source)).
-
-library_of(dcg_basics, library(dcg/basics)) :- !.
-library_of(dcg_high_order, library(dcg/high_order)) :- !.
-library_of(Module, library(Module)).
 
 
 %   goal(+Goal, +Context, -Pure)// emits what is found.
@@ -298,7 +309,7 @@ numbers_after(G, Context0, Context) :-
     ;   nonvar(G), G = must_be(Type, V), var(V), nonvar(Type),
         memberchk(Type, [integer, nonneg, positive_integer]),
         resolved(G, Context0, Where),
-        memberchk(Where, [library(error), library(error, _)])
+        Where = exported(_, error:_)
     ->  Context = Context0.put(numbers, [V|Context0.numbers])
     ;   Context = Context0
     ).
@@ -316,15 +327,26 @@ goal_in(M, G, Context, P) -->
     !,
     goal(G, Context, P).
 goal_in(M, G, Context, P) -->
-    { module_source(Context.main, M, Source) },
+    { module_source(Context, M, Source) },
     !,
     goal(G, Context.put(_{module:M, source:Source}), P).
 goal_in(M, G, Context, P) -->
-    goal(G, Context.put(_{module:M, source:Context.main}), P).
+    goal(G, Context.put(module, M), P).
 
+
+%   declaring_source(+Predicate, +Context, -Source): one that defines Predicate,
+%   and declares its meta-arguments if one does.
+
+declaring_source(Predicate, Context, Source) :-
+    defining_sources(Context.project, Predicate, Sources),
+    (   member(Source, Sources),
+        memberchk(Predicate-_, Source.meta)
+    ->  true
+    ;   Sources = [Source|_]
+    ).
 
 %   resolved(+Goal, +Context, -Where): own(Predicate), builtin,
-%   library(Module) for one of SWI-Prolog's, or unknown(PI).
+%   exported(Path, Predicate) for one of another file, or unknown(PI).
 
 resolved(G, Context, Where) :-
     functor(G, Name, Arity),
@@ -332,7 +354,7 @@ resolved(G, Context, Where) :-
     (   is_kept(G, Context)
     ->  Where = builtin
     ;   own_module(Context, M),
-        is_defined(Context.source, M:PI)
+        is_defined_here(Context, M:PI)
     ->  Where = own(M:PI)
     ;   Context.module == system
     ->  Where = builtin
@@ -341,14 +363,45 @@ resolved(G, Context, Where) :-
     ;   sees_imports(Context),
         import_of(Context.source, PI, Import)
     ->  import_where(Import, Where)
-    ;   Context.source == Context.main,
-        is_defined(Context.source, user:PI)
-    ->  Where = own(user:PI)
+    ;   inherits_user(Context),
+        of_user(Context, PI, Found)
+    ->  Where = Found
     ;   predicate_property(system:G, built_in)
     ->  Where = builtin
-    ;   index(PI, Module)
-    ->  Where = library(Module)
-    ;   Where = unknown(PI)
+    ;   index(PI, Module, Path)
+    ->  Where = exported(Path, Module:PI)
+    ;   own_name(PI, Context, Own),
+        Where = unknown(Own)
+    ).
+
+is_defined_here(Context, Predicate) :-
+    (   is_defined(Context.source, Predicate)
+    ->  true
+    ;   is_defined_in(Context.project, Predicate)
+    ).
+
+%   The library's modules inherit nothing from user, unless they are looked at
+%   as files.
+
+inherits_user(Context) :-
+    (   \+ is_library_file(Context.source.path)
+    ->  true
+    ;   is_root(Context.project, Context.source)
+    ).
+
+of_user(Context, PI, Where) :-
+    (   is_defined_in(Context.project, user:PI)
+    ->  Where = own(user:PI)
+    ;   root_source(Context.project, Source),
+        Source.module == user,
+        import_of(Source, PI, Import)
+    ->  import_where(Import, Where)
+    ).
+
+own_name(PI, Context, Own) :-
+    (   is_root(Context.project, Context.source)
+    ->  Own = PI
+    ;   Own = Context.module:PI
     ).
 
 %   is_kept(+Goal, +Context): Goal is built in, and the file does not redefine
@@ -366,7 +419,7 @@ own_module(Context, M) :-
     M = Context.module.
 own_module(Context, M) :-
     atom_concat(plunit_, _, Context.module),
-    M = Context.main.module.
+    M = Context.source.module.
 
 sees_imports(Context) :-
     (   Context.module == Context.source.module
@@ -381,143 +434,34 @@ knows_module(Context) :-
     ).
 
 import_where(imported(Path, Module:PI), Where) :-
-    (   is_library_file(Path)
-    ->  Where = library(Module, PI)
+    (   Module \== none,
+        atom(Path),
+        Path \== none
+    ->  Where = exported(Path, Module:PI)
     ;   Where = unknown(Module:PI)
-    ).
-
-%   import_of(+Source, +PI, -Import): what a directive of the file imports by
-%   that name: imported(Path, Module:PI), or imported(Path, none:PI). Where
-%   there are several, one from outside SWI-Prolog's library is taken, which
-%   is assumed to end; else one that is imported by its name.
-
-import_of(Source, PI, Import) :-
-    findall(Selection-imported(Path, Found),
-            ( member(import(Path, Header, Selection), Source.imports),
-              imports(Path, Header, Selection, PI, [Source.path], Found) ),
-            Imports),
-    (   member(_-Import, Imports),
-        Import = imported(Path, _),
-        \+ is_library_file(Path)
-    ->  true
-    ;   member(Selection-Import, Imports),
-        is_list(Selection)
-    ->  true
-    ;   Imports = [_-Import|_]
-    ).
-
-%   imports(+Path, +Header, +Selection, +PI, +Visited, -Found)
-
-imports(Path, header(Module, Exports), Selection, PI, Visited, Found) :-
-    Module \== none,
-    !,
-    (   selected(Selection, Exports, PI, Real)
-    ->  Found = Module:Real
-    ;   \+ is_library_file(Path),
-        \+ memberchk(Path, Visited),
-        plain_file(Path, Source),
-        member(import(Path1, Header1, Selection1), Source.reexports),
-        imports(Path1, Header1, Selection1, PI, [Path|Visited], Found)
-    ->  true
-    ).
-imports(Path, header(none, _), _, PI, Visited, none:PI) :-
-    (   atom(Path), exists_file(Path)
-    ->  \+ memberchk(Path, Visited),
-        plain_file(Path, Source),
-        (   is_defined(Source, Source.module:PI)
-        ->  true
-        ;   member(import(Path1, Header1, Selection1), Source.imports),
-            imports(Path1, Header1, Selection1, PI, [Path|Visited], _)
-        ->  true
-        )
-    ;   Path \= library(_)
-    ).
-
-selected(Selection, Exports, PI, PI) :-
-    var(Selection),
-    !,
-    exports(Exports, PI).
-selected(all, Exports, PI, PI) :-
-    !,
-    exports(Exports, PI).
-selected(except(Excepted), Exports, PI, PI) :-
-    !,
-    exports(Exports, PI),
-    \+ exports(Excepted, PI).
-selected(List, _, Name/Arity, Real) :-
-    is_list(List),
-    (   exports(List, Name/Arity)
-    ->  Real = Name/Arity
-    ;   member(Item, List),
-        nonvar(Item),
-        Item = as(Real0, Name),
-        exports([Real0], _/Arity)
-    ->  exports([Real0], Real1/Arity),
-        Real = Real1/Arity
-    ).
-
-exports(Exports, Name/Arity) :-
-    member(Export, Exports),
-    (   Export = Name/Arity
-    ;   nonvar(Export),
-        Export = Name//Arity0,
-        integer(Arity0),
-        Arity is Arity0 + 2
-    ),
-    !.
-
-plain_file(Path, Source) :-
-    kept_file(Path, Source),
-    !.
-plain_file(Path, Source) :-
-    read_source(Path, Source),
-    assertz(kept_file(Path, Source)).
-
-is_library_file(Path) :-
-    atom(Path),
-    current_prolog_flag(home, Home),
-    sub_atom(Path, 0, _, _, Home).
-
-%   The index of the predicates that are loaded when they are called.
-
-index(PI, Module) :-
-    ensure_index,
-    kept_index(PI, Module).
-
-ensure_index :-
-    kept_index(_, _),
-    !.
-ensure_index :-
-    forall(( absolute_file_name(library('INDEX'), Path, [extensions([pl]), access(read), solutions(all)]),
-             setup_call_cleanup(open(Path, read, In), index_entry(In, Name, Arity, Module), close(In)) ),
-           assertz(kept_index(Name/Arity, Module))).
-
-index_entry(In, Name, Arity, Module) :-
-    repeat,
-    read(In, Term),
-    (   Term == end_of_file
-    ->  !, fail
-    ;   Term = index(Name, Arity, Module, _)
     ).
 
 
 %   goal_of(+Where, +Goal, +Context, -Pure)//
 
 goal_of(own(Predicate), G, Context, P) -->
-    call_of(Predicate, Context.source, G, Context, P).
+    (   { declaring_source(Predicate, Context, Source) }
+    ->  call_of(Predicate, Source, G, Context, P)
+    ;   { P = true },
+        note(Context, external(Predicate))
+    ).
 goal_of(builtin, G, Context, P) -->
     builtin(system, G, Context, P).
-goal_of(library(Module), G, Context, P) -->
-    { functor(G, Name, Arity) },
-    goal_of(library(Module, Name/Arity), G, Context, P).
-goal_of(library(Module, Name/Arity), G0, Context, P) -->
+goal_of(exported(Path, Module:Name/Arity), G0, Context, P) -->
     { G0 =.. [_|Args],
       G =.. [Name|Args] },
-    (   { known(Module, G) }
+    (   { is_library_file(Path),
+          known(Module, G) }
     ->  builtin(Module, G, Context, P)
-    ;   { library_source(Module, Source),
-          is_defined(Source, Module:Name/Arity) }
-    ->  call_of(Module:Name/Arity, Source, G, Context, P)
+    ;   { exported_source(Context.project, Path, Module:Name/Arity, Real, Source) }
+    ->  { Real = _:RealName/_,
+          RealGoal =.. [RealName|Args] },
+        call_of(Real, Source, RealGoal, Context, P)
     ;   { P = true },
         note(Context, external(Module:Name/Arity))
     ).
@@ -593,11 +537,19 @@ text_note(G, Context) -->
         ->  []
         ;   note(Context, text)
         ),
-        (   { Context.main.letters == yes }
+        (   { has_letters(Context) }
         ->  note(Context, letter)
         ;   []
         )
     ;   []
+    ).
+
+has_letters(Context) :-
+    (   Context.source.letters == yes
+    ->  true
+    ;   root_source(Context.project, Source),
+        Source.letters == yes
+    ->  true
     ).
 
 format_text(format(Text), Text).
@@ -664,7 +616,7 @@ function_note(G, Context) -->
 hook_calls(G, Context, P) -->
     { functor(G, Name, Arity) },
     (   { hooks(Name/Arity, Hooks),
-          include(is_defined(Context.main), Hooks, Own),
+          include(is_defined_in(Context.project), Hooks, Own),
           Own = [_|_] }
     ->  hooks_called(Own, P)
     ;   { P = true }
@@ -807,7 +759,7 @@ call_of(Predicate, Source, G, Context, P) -->
       meta_specs(Predicate, Source, Args, Specs),
       maplist(known_closure(Context), Specs, Args, Closures),
       memberchk('$closure'(_, _), Closures),
-      may_specialise(Predicate, Source, Closures) },
+      may_specialise(Predicate, Source, Context.project, Closures) },
     !,
     { copy_term_nat(Closures, Numbered),
       term_variables(Closures, Variables),
@@ -904,7 +856,8 @@ small_closure(C) :-
     Count =< 1,
     \+ ( sub_term(Sub, C), nonvar(Sub), Sub = '$VAR'(_) ).
 
-may_specialise(Predicate, Source, Closures) :-
+may_specialise(Predicate, Source, Project, Closures) :-
+    defining_sources(Project, Predicate, [_]),
     source_clauses(Source, Predicate, Real),
     Real = [_|_],
     \+ comes_and_goes(Source, Predicate),

@@ -1,6 +1,10 @@
 :- module(real_source,
           [ read_source/2,              % +File, -Source
+            read_sources/2,             % +Files, -Project
+            file_source/2,              % +Path, -Source
+            file_reexports/2,           % +Path, -Imports
             module_header/4,            % +Spec, +Path, -ModulePath, -Header
+            is_library_file/1,          % +Path
             source_clauses/3,           % +Source, +Predicate, -Clauses
             is_defined/2                % +Source, +Predicate
           ]).
@@ -9,15 +13,21 @@
 
 read_source/2 reads a file with SWI-Prolog's own reader, with the operators,
 the flags, the conditional compilation, the grammar rules and the included
-files that it has, and runs nothing of it.
+files that it has, and runs nothing of it. A file without a module that it
+loads is read as its own text.
 
-A predicate is Module:Name/Arity. A source is a dict:
+read_sources/2 reads several files as one program, a project. That is a dict
+with `path`, the first of the files, `files`, the paths of all, and
+`sources`: one for each module, and one for all files that have none.
+
+A predicate is Module:Name/Arity. A Line is the number of a line in the first
+file, and Path:Number in any other. A source is a dict:
 
 | path        | the file                                                    |
 | module      | its module, `user` where it has none                        |
 | exports     | Name/Arity for each predicate that it exports               |
+| texts       | its paths with those of the texts that it includes or loads |
 | clauses     | an assoc of each predicate's list of clause(Line,Head,Body) |
-|             | where Line is File:Line in an included file                 |
 | dynamic     | the predicates whose clauses come and go                    |
 | multifile   | the predicates that other files add to                      |
 | conditional | those with a clause below an `:- if` that is not decided     |
@@ -31,6 +41,8 @@ A predicate is Module:Name/Arity. A source is a dict:
 | letters     | `yes` where the file may define letters of format/2         |
 | expansions  | expansion(Kind,Pattern): what the file rewrites when loaded |
 | doubts      | doubt(Line,Doubt): what was not understood of the file      |
+| adds        | doubt(Line,asserts): where it adds a clause that is not     |
+|             | known                                                       |
 */
 
 :- use_module(library(apply)).
@@ -41,22 +53,120 @@ A predicate is Module:Name/Arity. A source is a dict:
 :- use_module(library(pairs)).
 :- use_module(library(yall)).
 
-:- dynamic kept_header/2.
+:- dynamic kept_header/2, kept_reexports/2.
 
 %!  read_source(+File, -Source:dict) is det.
 %
 %   Throws what open/4 throws where File cannot be read.
 
 read_source(File, Source) :-
-    absolute_file_name(File, Path, [access(read), file_type(prolog)]),
-    gensym('real source ', Scratch),        % a module of its own for the operators
-    read_path(Path, Scratch, Items),
-    source_of(Path, Items, Source).
+    read_sources([File], Project),
+    Project.sources = [Source].
 
-read_path(Path, Scratch, Items) :-
-    State0 = state{path:Path, module:user, file_module:user, scratch:Scratch,
-                  double_quotes:string, back_quotes:codes, conditions:[], flags:[], chr:no, included:no},
-    read_text(Path, State0, _, Items, []).
+%!  read_sources(+Files, -Project:dict) is det.
+%
+%   Files without a module are one source. One that another of Files includes,
+%   or loads into its module, is read there alone.
+
+read_sources(Files, Project) :-
+    maplist(readable_path, Files, Paths0),
+    list_to_set(Paths0, Paths),
+    Paths = [First|_],
+    partition(has_module, Paths, ModulePaths, PlainPaths0),
+    maplist(read_module(First), ModulePaths, ModuleTexts),
+    findall(Loaded, ( member(text(_, Texts, _), ModuleTexts), member(Loaded, Texts) ), Elsewhere),
+    subtract(PlainPaths0, Elsewhere, PlainPaths),
+    (   PlainPaths == []
+    ->  Texts = ModuleTexts
+    ;   read_plain(First, PlainPaths, PlainText),
+        Texts = [PlainText|ModuleTexts]
+    ),
+    findall(Path-expansion(K, T), ( member(text(Path, _, Items), Texts), wide_expansion(Items, K, T) ), Wide),
+    maplist(text_source(Wide), Texts, Sources),
+    Project = project{path:First, files:Paths, sources:Sources}.
+
+readable_path(File, Path) :-
+    absolute_file_name(File, Path, [access(read), file_type(prolog)]).
+
+has_module(Path) :-
+    path_header(Path, header(Module, _)),
+    Module \== none.
+
+read_module(First, Path, text(Path, Texts, Items)) :-
+    line_place(First, Path, Place),
+    first_state(Path, Place, State0),
+    read_text(Path, State0, State, Items, []),
+    loaded_texts(State, Texts).
+
+read_plain(First, [Path|Paths], text(Path, Texts, Items)) :-
+    line_place(First, Path, Place),
+    first_state(Path, Place, State0),
+    read_text(Path, State0, State1, Items, Rest),
+    foldl(read_next(First), Paths, State1-Rest, State-[]),
+    loaded_texts(State, Texts).
+
+read_next(First, Path, State0-Items, State-Rest) :-
+    (   memberchk(_-Path, State0.loaded)
+    ->  State = State0,
+        Items = Rest
+    ;   line_place(First, Path, Place),
+        read_text(Path, State0.put(_{path:Path, place:Place, module:user, file_module:user, conditions:[],
+                                     double_quotes:string, back_quotes:codes, loaded:[user-Path|State0.loaded]}),
+                  State, Items, Rest)
+    ).
+
+line_place(First, Path, Place) :-
+    (   Path == First
+    ->  Place = first
+    ;   Place = Path
+    ).
+
+%   A scratch module has the operators of the text.
+
+first_state(Path, Place, State) :-
+    gensym('real source ', Scratch),
+    State = state{path:Path, module:user, file_module:user, scratch:Scratch, double_quotes:string, back_quotes:codes,
+                  conditions:[], flags:[], chr:no, included:no, place:Place, loaded:[user-Path], within:directive}.
+
+loaded_texts(State, Texts) :-
+    pairs_values(State.loaded, Texts).
+
+%!  file_source(+Path, -Source:dict) is semidet.
+%
+%   The source of a file that is not among those asked for. It is kept, since
+%   a file does not change meanwhile. Fails if it cannot be read.
+
+file_source(Path, Source) :-
+    source_variable(Path, Variable),
+    (   nb_current(Variable, Kept)
+    ->  Kept = some(Source)
+    ;   catch(read_module(none, Path, Text), _, fail)
+    ->  text_source([], Text, Source),
+        nb_setval(Variable, some(Source))
+    ;   nb_setval(Variable, none),
+        fail
+    ).
+
+%   Global variables are not copied when they are looked up, as facts are.
+
+source_variable(Path, Variable) :-
+    atom_concat('real source of ', Path, Variable).
+
+%!  file_reexports(+Path, -Imports) is det.
+%
+%   What the file exports again. Few files do, so others are not read for it.
+
+file_reexports(Path, Imports) :-
+    kept_reexports(Path, Imports),
+    !.
+file_reexports(Path, Imports) :-
+    (   catch(read_file_to_string(Path, Text, []), _, fail),
+        sub_string(Text, _, _, _, "reexport"),
+        file_source(Path, Source)
+    ->  Imports = Source.reexports
+    ;   Imports = []
+    ),
+    assertz(kept_reexports(Path, Imports)).
 
 read_text(Path, State0, State, Items, Rest) :-
     setup_call_cleanup(open(Path, read, In, [encoding(utf8), bom(true)]),
@@ -117,9 +227,9 @@ read_one(In, State, Term, Line) :-
             ->  Line0 = Line1
             ;   Line0 = Before
             ) )),
-    (   State.included == no
+    (   State.place == first
     ->  Line = Line0
-    ;   Line = State.included:Line0
+    ;   Line = State.place:Line0
     ).
 
 
@@ -446,9 +556,16 @@ may_run(Term, Line, Goal, State0-Items, State-Rest) :-
         ;   Items = Rest
         ),
         State = State0
-    ;   obeyed(Goal, Line, none, State0, State, Items, Rest)
-    ->  true
+    ;   within(Term, Within),
+        obeyed(Goal, Line, none, State0.put(within, Within), State1, Items, Rest)
+    ->  State = State1.put(within, directive)
     ;   State = State0, Items = Rest
+    ).
+
+within(Term, Within) :-
+    (   Term = clause(_)
+    ->  Within = clause
+    ;   Within = directive
     ).
 
 %   obeyed_in(+Directive, +M, ..): a directive for the module M. What it
@@ -498,9 +615,7 @@ obeyed(expects_dialect(Dialect), Line, _, State, State, Items, Rest) :-
     ).
 obeyed(include(Spec), Line, _, State0, State, Items, Rest) :-
     (   catch(relative_file(Spec, State0.path, Path), _, fail)
-    ->  file_base_name(Path, Base),
-        read_text(Path, State0.put(_{included:Base, path:Path}), State1, Items, Rest),
-        State = State1.put(_{included:State0.included, path:State0.path})
+    ->  part_of_text(Path, State0, State, Items, Rest)
     ;   State = State0,
         Items = [doubt(Line, include(Spec))|Rest]
     ).
@@ -522,15 +637,15 @@ obeyed(set_base_module(_), Line, _, State, State, [doubt(Line, inherits)|Rest], 
 obeyed(Directive, Line, _, State0, State, Items, Rest) :-
     loading(Directive, Spec, Selection),
     !,
-    imported(Spec, Selection, Line, State0, Items, Rest0),
+    imported(Spec, Selection, Line, State0, State1, Items, Rest0),
     (   functor(Directive, reexport, _)
     ->  findall(reexport(F, H, S), between_items(Items, Rest0, import(F, H, S)), Again),
         append(Again, Rest, Rest0)
     ;   Rest0 = Rest
     ),
     (   Spec == library(chr)
-    ->  State = State0.put(chr, yes)
-    ;   State = State0
+    ->  State = State1.put(chr, yes)
+    ;   State = State1
     ).
 obeyed(Directive, _, _, State, State, Items, Rest) :-
     declaration(Directive, Kind, Specs),
@@ -656,23 +771,45 @@ loading(load_files(Spec), Spec, all).
 loading(load_files(Spec, _), Spec, all).
 loading([Spec|Specs], [Spec|Specs], all).
 
-imported(Spec, _, Line, _, [doubt(Line, loads(Spec))|Rest], Rest) :-
+imported(Spec, _, Line, State, State, [doubt(Line, loads(Spec))|Rest], Rest) :-
     \+ ground(Spec),
     !.
-imported([], _, _, _, Rest, Rest) :- !.
-imported([Spec|Specs], Selection, Line, State, Items, Rest) :-
+imported([], _, _, State, State, Rest, Rest) :- !.
+imported([Spec|Specs], Selection, Line, State0, State, Items, Rest) :-
     !,
-    imported(Spec, Selection, Line, State, Items, More),
-    imported(Specs, Selection, Line, State, More, Rest).
-imported(_:Spec, Selection, Line, State, Items, Rest) :-
+    imported(Spec, Selection, Line, State0, State1, Items, More),
+    imported(Specs, Selection, Line, State1, State, More, Rest).
+imported(_:Spec, Selection, Line, State0, State, Items, Rest) :-
     !,
-    imported(Spec, Selection, Line, State, Items, Rest).
-imported(Spec, Selection, _, State, [import(Path, Header, Selection)|Rest], Rest) :-
-    module_header(Spec, State.path, Path, Header),
+    imported(Spec, Selection, Line, State0, State, Items, Rest).
+imported(Spec, Selection, _, State0, State, Items, Rest) :-
+    module_header(Spec, State0.path, Path, Header),
     !,
-    header(_, Exports) = Header,
-    declare_operators(Exports, State.scratch).
-imported(Spec, Selection, _, _, [import(Spec, header(none, []), Selection)|Rest], Rest).
+    Header = header(Module, Exports),
+    (   Module == none,
+        State0.within == directive
+    ->  loaded_text(Path, State0, State, Items, Rest)
+    ;   State = State0,
+        Items = [import(Path, Header, Selection)|Rest],
+        declare_operators(Exports, State0.scratch)
+    ).
+imported(Spec, Selection, _, State, State, [import(Spec, header(none, []), Selection)|Rest], Rest).
+
+%   A file without a module becomes a part of the text that loads it, once for
+%   each module.
+
+loaded_text(Path, State0, State, Items, Rest) :-
+    (   memberchk(State0.module-Path, State0.loaded)
+    ->  State = State0,
+        Items = Rest
+    ;   part_of_text(Path, State0, State1, Items, Rest),
+        State = State1.put(_{module:State0.module, file_module:State0.file_module})
+    ).
+
+part_of_text(Path, State0, State, Items, Rest) :-
+    Loaded = [State0.module-Path|State0.loaded],
+    read_text(Path, State0.put(_{included:yes, place:Path, path:Path, loaded:Loaded}), State1, Items, Rest),
+    State = State1.put(_{included:State0.included, place:State0.place, path:State0.path}).
 
 %!  module_header(+Spec, +From, -Path, -Header) is semidet.
 %
@@ -681,16 +818,39 @@ imported(Spec, Selection, _, _, [import(Spec, header(none, []), Selection)|Rest]
 
 module_header(Spec, From, Path, Header) :-
     catch(relative_file(Spec, From, Path), _, fail),
+    path_header(Path, Header).
+
+path_header(Path, Header) :-
     (   kept_header(Path, Kept)
     ->  Header = Kept
     ;   read_header(Path, Header),
         assertz(kept_header(Path, Header))
     ).
 
-relative_file(Spec, From, Path) :-
+%   Files of SWI-Prolog's library name each other by aliases that the library
+%   makes when it is loaded.
+
+relative_file(Spec0, From, Path) :-
+    (   library_alias(Spec0, Spec),
+        is_library_file(From)
+    ->  true
+    ;   Spec = Spec0
+    ),
     absolute_file_name(Spec, Path,
                        [ file_type(prolog), access(read), relative_to(From),
                          file_errors(fail) ]).
+
+library_alias(chr(File), library(chr/File)).
+library_alias(pldoc(File), library(pldoc/File)).
+
+%!  is_library_file(+Path) is semidet.
+%
+%   Path is of SWI-Prolog's own files.
+
+is_library_file(Path) :-
+    atom(Path),
+    current_prolog_flag(home, Home),
+    sub_atom(Path, 0, _, _, Home).
 
 read_header(Path, Header) :-
     setup_call_cleanup(open(Path, read, In, [encoding(utf8), bom(true)]),
@@ -725,7 +885,7 @@ before_module(Directive, In) :-
 
 %   The source of the items.
 
-source_of(Path, Items, Source) :-
+text_source(Wide, text(Path, Texts, Items), Source) :-
     (   memberchk(module(Module, Exports0), Items)
     ->  convlist(exported, Exports0, Exports)
     ;   Module = user, Exports = []
@@ -733,10 +893,6 @@ source_of(Path, Items, Source) :-
     findall(P-clause(L, H, B), member(clause(P, L, H, B), Items), Pairs0),
     asserted(Items, Module, Asserted),
     findall(P-clause(L, H, B), member(asserts(P, L, H, B), Asserted), Pairs1),
-    append(Pairs0, Pairs1, Pairs),
-    keysort(Pairs, Sorted),
-    group_pairs_by_key(Sorted, Groups),
-    list_to_assoc(Groups, Clauses),
     collected(P, member(dynamic(P), Items), Dynamic0),
     collected(P, member(dynamic(P), Asserted), Dynamic1),
     ord_union_(Dynamic0, Dynamic1, Dynamic),
@@ -750,10 +906,23 @@ source_of(Path, Items, Source) :-
     findall(import(F, H, S), member(import(F, H, S), Items), Imports),
     findall(import(F, H, S), member(reexport(F, H, S), Items), Reexports),
     findall(P-clause(0, H, true), member(added(P, H), Asserted), Pairs2),
-    append(Pairs0, Pairs2, Expanding),
-    findall(expansion(K, T), expansion_of(Expanding, Module, K, T), Expansions),
+    append(Pairs0, Pairs2, Expanding0),
+    partition(known_expansion(Items), Expanding0, Known, Expanding),
+    findall(expansion(K, T), own_expansion(Path, Expanding, Module, K, T), Expansions0),
+    findall(Expansion, ( member(Other-Expansion, Wide), Other \== Path ), Expansions1),
+    append(Expansions0, Expansions1, Expansions),
+    findall(Result, expanded(Items, Known, Module, Expansions, Result), Results),
+    findall(P-clause(L, H, B), member(clause(P, L, H, B), Results), Pairs3),
+    append([Pairs0, Pairs1, Pairs3], Pairs),
+    keysort(Pairs, Sorted),
+    group_pairs_by_key(Sorted, Groups),
+    list_to_assoc(Groups, Clauses),
     findall(doubt(L, D), member(doubt(L, D), Items), Doubts0),
-    findall(doubt(L, D), rewritten_clause(Items, Expansions, L, D), Doubts1),
+    findall(doubt(L, D),
+            (   \+ looked_at(Path, Module), rewritten_clause(Items, Expansions, L, D)
+            ;   member(doubt(L, D), Results)
+            ),
+            Doubts1),
     findall(doubt(L, flags), flags_by_call(Items, Clauses, L), Doubts2),
     findall(doubt(L, asserts), member(unknown_assert(L), Asserted), Adds0),
     sort(Adds0, Adds),
@@ -762,7 +931,7 @@ source_of(Path, Items, Source) :-
     ->  Letters = yes
     ;   Letters = no
     ),
-    Source = source{path:Path, module:Module, exports:Exports, clauses:Clauses, dynamic:Dynamic,
+    Source = source{path:Path, texts:Texts, module:Module, exports:Exports, clauses:Clauses, dynamic:Dynamic,
                     multifile:Multifile, conditional:Conditional, tabled:Tabled, meta:Meta,
                     imports:Imports, reexports:Reexports, arithmetic:Arithmetic, redefined:Redefined,
                     transparent:Transparent,
@@ -797,9 +966,9 @@ exported(Name//Arity0, Name/Arity) :-
 %   What a file rewrites when it is loaded: the first arguments of its own
 %   term_expansion and goal_expansion.
 
-expansion_of(Pairs, Module, Kind, Pattern) :-
+expansion_of(Pairs, Modules, Kind, Pattern) :-
     member((M:Name/_)-clause(_, Head, _), Pairs),
-    memberchk(M, [user, system, Module]),
+    memberchk(M, Modules),
     expansion_kind(Name, Kind),
     arg(1, Head, Pattern0),
     (   Pattern = Pattern0
@@ -807,8 +976,114 @@ expansion_of(Pairs, Module, Kind, Pattern) :-
         Pattern0 = _:Pattern
     ).
 
+own_expansion(Path, Pairs, Module, Kind, Pattern) :-
+    \+ looked_at(Path, Module),
+    expansion_of(Pairs, [user, system, Module], Kind, Pattern).
+
+%   What these modules of the library rewrite of their own was looked at.
+%   apply: facts for library(sandbox) come of it. clpfd: its three facts become clauses of predicates that have none in the
+%   text; constraints become tests before the call of the constraint; (cis)/2
+%   and its like are not defined, so they are assumed to end.
+
+looked_at(Path, Module) :-
+    memberchk(Module, [apply, clpfd]),
+    is_library_file(Path).
+
+%   wide_expansion(+Items, -Kind, -Pattern): what a file rewrites of others.
+
+wide_expansion(Items, Kind, Pattern) :-
+    member(clause(M:PI, L, H, B), Items),
+    expansion_of([(M:PI)-clause(L, H, B)], [user, system], Kind, Pattern).
+
 expansion_kind(term_expansion, term).
 expansion_kind(goal_expansion, goal).
+
+%   known_expansion(+Items, +Pair): a clause of the file's own term_expansion
+%   of which it is known what comes of a term: clauses that are instances of
+%   some that are in its text.
+
+known_expansion(Items, (_:term_expansion/2)-clause(Line, Head, Body)) :-
+    Line \== 0,
+    arg(1, Head, Pattern),
+    nonvar(Pattern),
+    arg(2, Head, Out),
+    instances(Out, Body, Items, Results),
+    forall(member(Result, Results), catch(plain_clause(Result, user, _, _, _), _, fail)).
+
+%   instances(+Out, +Body, +Items, -Results): once Body has succeeded, Out is
+%   an instance of one of Results, or a list of such.
+
+instances(Out, Body, Items, Results) :-
+    (   var(Out)
+    ->  conjunct(Body, Goal),
+        gives_list(Goal, Out, Items, Results)
+    ;   Out = [First|More]
+    ->  instances(First, Body, Items, Results0),
+        instances(More, Body, Items, Results1),
+        append(Results0, Results1, Results)
+    ;   Out == []
+    ->  Results = []
+    ;   Out \= (:- _),
+        Results = [Out]
+    ),
+    !.
+
+conjunct(Body, Goal) :-
+    nonvar(Body),
+    (   Body = (A, B)
+    ->  (   conjunct(A, Goal)
+        ;   conjunct(B, Goal)
+        )
+    ;   Goal = Body
+    ).
+
+gives_list(findall(Template, Goal, List), Out, Items, Results) :-
+    List == Out,
+    (   nonvar(Template)
+    ->  Results = [Template]
+    ;   nonvar(Goal),
+        Goal =.. [Name|Args],
+        nth1(Place, Args, Arg),
+        Arg == Template,
+        head_arguments(Name, Args, Place, Items, Results)
+    ).
+gives_list(maplist(Closure, _, List), Out, Items, Results) :-
+    List == Out,
+    \+ member(clause(_:maplist/3, _, _, _), Items),
+    atom(Closure),
+    head_arguments(Closure, [_, _], 2, Items, Results).
+
+head_arguments(Name, Args, Place, Items, Results) :-
+    length(Args, Arity),
+    findall(Result,
+            ( member(clause(_:Name/Arity, _, Head, _), Items), arg(Place, Head, Result) ),
+            Results),
+    \+ member(dynamic(_:Name/Arity), Items),
+    \+ member(multifile(_:Name/Arity), Items),
+    Results = [_|_],
+    forall(member(Result, Results), nonvar(Result)).
+
+%   expanded(+Items, +Known, +Module, +Expansions, -Result): a clause
+%   that comes of a term, or a doubt where that may be rewritten again.
+
+expanded(Items, Known, Module, Expansions, Found) :-
+    member(raw(Line, Term), Items),
+    \+ expansion_clause(Term),
+    member(_-clause(_, Head0, Body0), Known),
+    arg(1, Head0, Pattern0),
+    \+ Term \= Pattern0,
+    copy_term(Head0-Body0, Head-Body),
+    arg(1, Head, Term),
+    arg(2, Head, Out),
+    instances(Out, Body, Items, Results),
+    member(Result, Results),
+    Result \== end_of_file,
+    (   is_rewritten(Expansions, Result)
+    ->  Found = doubt(Line, rewritten)
+    ;   plain_clause(Result, Module, M, ResultHead, ResultBody),
+        functor(ResultHead, Name, Arity),
+        Found = clause(M:Name/Arity, Line, ResultHead, ResultBody)
+    ).
 
 %   Flags that a clause sets, if a directive may call one of the clauses.
 
@@ -837,6 +1112,9 @@ runs_goals(Directive) :-
 rewritten_clause(Items, Expansions, Line, rewritten) :-
     member(raw(Line, Term), Items),
     \+ expansion_clause(Term),
+    is_rewritten(Expansions, Term).
+
+is_rewritten(Expansions, Term) :-
     member(expansion(term, Pattern), Expansions),
     \+ Term \= Pattern.
 
