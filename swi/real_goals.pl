@@ -1,5 +1,6 @@
 :- module(real_goals,
-          [ predicate_clauses/4         % +Main, +Key, -Clauses, -Found
+          [ predicate_clauses/4,        % +Main, +Key, -Clauses, -Found
+            source_of/3                 % +Main, +Predicate, -Source
           ]).
 
 /** <module> Real clauses as pure clauses that cover them
@@ -165,6 +166,8 @@ bind_closures([C|Cs], [C|As], Bs) :-
 
 
 %!  source_of(+Main, +Predicate, -Source) is semidet.
+%
+%   Source is what was read of the file that has the clauses of Predicate.
 
 source_of(Main, Module:PI, Source) :-
     (   is_defined(Main, Module:PI)

@@ -31,6 +31,7 @@ A predicate is Module:Name/Arity. A source is a dict:
 | letters     | `yes` where the file may define letters of format/2         |
 | expansions  | expansion(Kind,Pattern): what the file rewrites when loaded |
 | doubts      | doubt(Line,Doubt): what was not understood of the file      |
+| unread      | place(Path,Line,Column,Message) of each syntax error        |
 */
 
 :- use_module(library(apply)).
@@ -111,15 +112,23 @@ read_one(In, State, Term, Line) :-
     line_count(In, Before),
     catch(( read_term(In, Term, Options),
             stream_position_data(line_count, Position, Line0) ),
-          error(syntax_error(_), Place),
-          ( Term = '$unread',
-            (   nonvar(Place), ( Place = file(_, Line1, _, _) ; Place = stream(_, Line1, _, _) )
-            ->  Line0 = Line1
-            ;   Line0 = Before
-            ) )),
+          error(syntax_error(Message), Place),
+          ( Term = '$unread'(place(State.path, Line0, Column, Message)),
+            syntax_error_place(Place, Before, Line0, Column) )),
     (   State.included == no
     ->  Line = Line0
     ;   Line = State.included:Line0
+    ).
+
+%   syntax_error_place(+Place, +Before, -Line, -Column): Before is the line at
+%   which the reader began.
+
+syntax_error_place(Place, Before, Line, Column) :-
+    (   nonvar(Place),
+        ( Place = file(_, Line, Position, _) ; Place = stream(_, Line, Position, _) )
+    ->  Column is Position + 1
+    ;   Line = Before,
+        Column = 1
     ).
 
 
@@ -135,12 +144,12 @@ item((:- Directive), Line, _, State0, State, Items, Items) :-
 item(_, _, _, State, State, Items, Items) :-
     is_skipped(State.conditions),
     !.
-item('$unread', Line, _, State, State, [doubt(Line, unread)|Items], Items) :- !.
+item('$unread'(Place), Line, _, State, State, [doubt(Line, unread), unread(Place)|Items], Items) :- !.
 item([Term|Terms], Line, In, State0, State, Items, Rest) :-
     !,                                  % a list of clauses, as they are
     (   is_list(Terms)
     ->  Items = [raw(Line, [Term|Terms])|More],
-        foldl([One, S0-I0, S-I]>>item(One, Line, In, S0, S, I0, I), [Term|Terms], State0-More, State-Rest)
+        foldl({Line, In}/[One, S0-I0, S-I]>>item(One, Line, In, S0, S, I0, I), [Term|Terms], State0-More, State-Rest)
     ;   State = State0,
         Items = [doubt(Line, unread)|Rest]
     ).
@@ -753,6 +762,7 @@ source_of(Path, Items, Source) :-
     append(Pairs0, Pairs2, Expanding),
     findall(expansion(K, T), expansion_of(Expanding, Module, K, T), Expansions),
     findall(doubt(L, D), member(doubt(L, D), Items), Doubts0),
+    findall(Place, member(unread(Place), Items), Unread),
     findall(doubt(L, D), rewritten_clause(Items, Expansions, L, D), Doubts1),
     findall(doubt(L, flags), flags_by_call(Items, Clauses, L), Doubts2),
     findall(doubt(L, asserts), member(unknown_assert(L), Asserted), Adds0),
@@ -767,7 +777,7 @@ source_of(Path, Items, Source) :-
                     imports:Imports, reexports:Reexports, arithmetic:Arithmetic, redefined:Redefined,
                     transparent:Transparent,
                     expansions:Expansions, letters:Letters,
-                    doubts:Doubts, adds:Adds}.
+                    doubts:Doubts, unread:Unread, adds:Adds}.
 
 has_atom(Term, Name) :-
     sub_term(Sub, Term),

@@ -609,7 +609,9 @@ reason_of(Text, Predicate, Reason) :-
     setup_call_cleanup(open(File, write, Out), write(Out, Text), close(Out)),
     cti_file_answer(File, Answer, []),
     delete_file(File),
-    memberchk(predicate(Predicate, _, [], Reason, _, _), Answer.predicates).
+    member(Found, Answer.predicates),
+    _{name:Predicate, modes:[], reason:Reason} :< Found,
+    !.
 
 :- end_tests(answers).
 

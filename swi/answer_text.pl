@@ -1,0 +1,139 @@
+:- module(answer_text,
+          [ print_answer/1,             % +Answer
+            reason_text/2,              % +Reason, -Text
+            assumption_text/2           % +Doubt, -Text
+          ]).
+
+/** <module> What is said of a real file, for people */
+
+:- use_module(library(lists)).
+:- use_module(real_builtins, [is_read_library/1]).
+
+%!  print_answer(+Answer:dict) is det.
+%
+%   Prints the answer for people, as the script cti-file does.
+
+print_answer(Answer) :-
+    forall(member(Predicate, Answer.predicates), print_predicate(Predicate)),
+    (   Answer.assumptions == []
+    ->  true
+    ;   format("~nassumed:~n"),
+        forall(member(Assumption, Answer.assumptions), print_assumption(Assumption, Answer.file))
+    ),
+    format("~nAlways assumed: no cyclic terms, and no attributed variables in the query. Not proved: that the pure program~n\
+covers the file. See docs/real-files.md.~n").
+
+print_predicate(Predicate) :-
+    _{line:Line, name:Name, modes:Modes, reason_text:Reason, assumptions:Numbers} :< Predicate,
+    format("~w~t~14|~q~t~48|", [Line, Name]),
+    (   Modes == []
+    ->  format(" no mode: ~s", [Reason])
+    ;   modes_text(Modes, Text),
+        format(" ~s", [Text]),
+        print_numbers(Numbers)
+    ),
+    nl.
+
+%   modes_text(+Modes, -Text): [[1]] asks for ground arguments.
+
+modes_text(Modes, Text) :-
+    findall(Set, member(mode{arguments:Set, by:ground}, Modes), Ground),
+    findall(Set, member(mode{arguments:Set, by:length}, Modes), Lengths),
+    (   Lengths == []
+    ->  format(string(Text), "~w", [Ground])
+    ;   Ground == []
+    ->  format(string(Text), "~w by length", [Lengths])
+    ;   format(string(Text), "~w, ~w by length", [Ground, Lengths])
+    ).
+
+print_numbers([]) :- !.
+print_numbers(Numbers) :-
+    length(Numbers, Count),
+    (   Count > 6
+    ->  length(First, 5),
+        append(First, _, Numbers),
+        atomic_list_concat(First, ', ', Text),
+        Others is Count - 5,
+        format(" if ~w and ~d more", [Text, Others])
+    ;   atomic_list_concat(Numbers, ', ', Text),
+        format(" if ~w", [Text])
+    ).
+
+print_assumption(Assumption, MainFile) :-
+    _{number:Number, file:File, line:Line, predicate:Predicate, text:Text} :< Assumption,
+    place_text(File, Line, MainFile, Place),
+    (   Predicate == file
+    ->  format("~t~d~4|  ~w: ~s~n", [Number, Place, Text])
+    ;   format("~t~d~4|  ~w: ~q: ~s~n", [Number, Place, Predicate, Text])
+    ).
+
+%   place_text(+File, +Line, +MainFile, -Text): a file of SWI-Prolog's library
+%   is named as it is loaded.
+
+place_text(File, Line, MainFile, Text) :-
+    (   File \== MainFile,
+        current_prolog_flag(home, Home),
+        atomic_list_concat([Home, '/library/'], Library),
+        atom_concat(Library, Rest, File),
+        file_name_extension(Stem, pl, Rest)
+    ->  format(atom(Text), "library(~w):~w", [Stem, Line])
+    ;   file_base_name(File, Base),
+        Text = Base:Line
+    ).
+
+%!  reason_text(+Reason, -Text:string) is det.
+
+reason_text(nothing_falls(Calls), Text) :-
+    findall(One, ( member(call(Line, Predicate), Calls), format(atom(One), "~q in line ~w", [Predicate, Line]) ), Texts),
+    atomic_list_concat(Texts, ', ', Where),
+    (   Calls = [_]
+    ->  format(string(Text), "no weighted sum of its arguments' sizes gets smaller at the call of ~w", [Where])
+    ;   format(string(Text), "no single weighted sum of its arguments' sizes gets smaller at all of these calls: ~w", [Where])
+    ).
+reason_text(large(Count), Text) :-
+    format(string(Text), "the predicates of its recursion have ~d arguments, more than 12: the search was cut short", [Count]).
+reason_text(blown, "the search was given up: its numbers or lists grew too large").
+reason_text(calls(Line, Predicate), Text) :-
+    format(string(Text), "line ~w calls ~q, which has none", [Line, Predicate]).
+reason_text(needs(Calls), Text) :-
+    findall(One,
+            ( member(call(Line, Predicate, Sets), Calls), format(atom(One), "~q ~w in line ~w", [Predicate, Sets, Line]) ),
+            Texts),
+    atomic_list_concat(Texts, ', ', All),
+    format(string(Text), "what these calls need ground is not sure to be: ~w", [All]).
+reason_text(unknown, "no ground arguments make sure that its calls end").
+
+%!  assumption_text(+Doubt, -Text:string) is det.
+
+assumption_text(goal, "the goal that it calls is not known: it ends").
+assumption_text(external(PI), Text) :-
+    format(string(Text), "~q is not read: it ends", [PI]).
+assumption_text(risk(place, PI), Text) :-
+    format(string(Text), "~q changes a term in place: no term that is known by its size grows", [PI]).
+assumption_text(risk(waits, PI), Text) :-
+    format(string(Text), "~q leaves a goal waiting: it ends when it runs", [PI]).
+assumption_text(risk(imports, PI), Text) :-
+    format(string(Text), "~q imports from another module: nothing that the file calls", [PI]).
+assumption_text(risk(runs, PI), Text) :-
+    format(string(Text), "~q may run goals that are not known, or wait: it ends", [PI]).
+assumption_text(bound, "the upper bound of between/3 is not inf").
+assumption_text(text, "the text that is formatted is not known: it has no ~@").
+assumption_text(letter, "letters of format/2 that the file defines, if the text has them, run goals that end").
+assumption_text(function, "the file's own function in arithmetic ends").
+assumption_text(rewritten, "the file rewrites this when it is loaded: what comes of it ends as this does").
+assumption_text(multifile, "other files may add clauses: these end").
+assumption_text(conditional, "it depends on :- if: the clauses read here are those loaded").
+assumption_text(tabled, "tabled with moded arguments or options: tabling does not call it more generally").
+assumption_text(transparent, "it runs in the module of its caller: what it calls there ends, as if it were here").
+assumption_text(imported, "it is also imported by its name: the clauses read here are those that are called").
+assumption_text(adds, "clauses that the file adds to it, and that are not known, are facts").
+assumption_text(unread, "this clause could not be read: nothing depends on it").
+assumption_text(flags, "a flag for the reading of what is in quotes may change here: it is read as if it did not").
+assumption_text(chr, "rules of CHR are not read: they end").
+assumption_text(dialect(Dialect), Text) :-
+    format(string(Text), "the file is for ~w: it is as for SWI-Prolog", [Dialect]).
+assumption_text(include(Spec), Text) :-
+    format(string(Text), "the included file ~q was not found: it adds no clauses", [Spec]).
+assumption_text(inherits, "what is imported here has no name that the file calls").
+assumption_text(loads(_), "what is loaded is not known: it adds no clauses").
+assumption_text(asserts, "a clause that it adds is not known").
