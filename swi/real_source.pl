@@ -46,7 +46,9 @@ A predicate is Module:Name/Arity. A source is a dict:
 
 %!  read_source(+File, -Source:dict) is det.
 %
-%   Throws what open/4 throws where File cannot be read.
+%   Throws what open/4 throws where File cannot be read, and
+%   error(not_text(Path, Text), _) where it, or a file that it loads, is no
+%   text in UTF-8.
 
 read_source(File, Source) :-
     absolute_file_name(File, Path, [access(read), file_type(prolog)]),
@@ -60,9 +62,29 @@ read_path(Path, Scratch, Items) :-
     read_text(Path, State0, _, Items, []).
 
 read_text(Path, State0, State, Items, Rest) :-
-    setup_call_cleanup(open(Path, read, In, [encoding(utf8), bom(true)]),
+    setup_call_cleanup(open_text(Path, In),
                        ( skip_interpreter(In), read_items(In, State0, State, Items, Rest) ),
                        close(In)).
+
+%   open_text(+Path, -In): SWI-Prolog's reader does not survive some texts in
+%   UTF-16, and a program of the machine has no clauses.
+
+open_text(Path, In) :-
+    setup_call_cleanup(open(Path, read, Bytes, [type(binary)]),
+                       read_string(Bytes, 65536, Start),
+                       close(Bytes)),
+    (   no_text(Start, Text)
+    ->  throw(error(not_text(Path, Text), _))
+    ;   open(Path, read, In, [encoding(utf8), bom(true)])
+    ).
+
+no_text(Start, "this text is in UTF-16 or UTF-32: save it as UTF-8") :-
+    member(Mark, ["\xFF\\xFE\", "\xFE\\xFF\", "\x0\\x0\\xFE\\xFF\"]),
+    sub_string(Start, 0, _, _, Mark),
+    !.
+no_text(Start, "this is no text: it has a byte of 0") :-
+    sub_string(Start, _, _, _, "\x0\"),
+    !.
 
 skip_interpreter(In) :-
     (   peek_string(In, 2, "#!")
@@ -112,9 +134,10 @@ read_one(In, State, Term, Line) :-
     line_count(In, Before),
     catch(( read_term(In, Term, Options),
             stream_position_data(line_count, Position, Line0) ),
-          error(syntax_error(Message), Place),
-          ( Term = '$unread'(place(State.path, Line0, Column, Message)),
-            syntax_error_place(Place, Before, Line0, Column) )),
+          error(syntax_error(Error), Place),
+          ( syntax_error_place(Place, Before, Line0, Column),
+            message_to_string(error(syntax_error(Error), _), Message),
+            Term = '$unread'(place(State.path, Line0, Column, Message)) )),
     (   State.included == no
     ->  Line = Line0
     ;   Line = State.included:Line0
@@ -702,7 +725,7 @@ relative_file(Spec, From, Path) :-
                          file_errors(fail) ]).
 
 read_header(Path, Header) :-
-    setup_call_cleanup(open(Path, read, In, [encoding(utf8), bom(true)]),
+    setup_call_cleanup(open_text(Path, In),
                        ( skip_interpreter(In), first_module(In, Header) ),
                        close(In)).
 
