@@ -1,5 +1,5 @@
 :- module(analyses,
-          [ analysed/7,                 % +PureFile, +Prefix, +Names, +Program, +Kinds, -Found, +Options
+          [ analysed/6,                 % +PureFile, +Prefix, +Names, +Kinds, -Found, +Options
             minimal_modes/2             % +Modes, -Minimal
           ]).
 
@@ -27,7 +27,7 @@ analysis(term_size, ground, [infer], check).
 analysis(list_size, length, [infer, '--norm', list], check).
 analysis(lists_of_mappings, ground, [lex], no_check).
 
-%!  analysed(+PureFile, +Prefix, +Names, +Program, +Kinds, -Found:dict, +Options) is det.
+%!  analysed(+PureFile, +Prefix, +Names, +Kinds, -Found:dict, +Options) is det.
 %
 %   Found is found{modes, results}: an assoc of each key's list of
 %
@@ -40,11 +40,11 @@ analysis(lists_of_mappings, ground, [lex], no_check).
 %   with its certificate, what cti said beside it, and an assoc of each key's
 %   list of sets. The certificates' names begin with Prefix.
 
-analysed(PureFile, Prefix, Names, Program, Kinds, found{modes:Modes, results:Results}, Options) :-
+analysed(PureFile, Prefix, Names, Kinds, found{modes:Modes, results:Results}, Options) :-
     option(timeout(Timeout), Options, 12),
     get_time(Now),
     Deadline is Now + Timeout,
-    Work = work{pure:PureFile, prefix:Prefix, deadline:Deadline, names:Names, program:Program},
+    Work = work{pure:PureFile, prefix:Prefix, deadline:Deadline, names:Names},
     wanted(Options, [First|Others]),
     outcome(Work, Options, First, FirstOutcome),
     (   leaves_something(FirstOutcome, Kinds)
@@ -84,7 +84,8 @@ outcome(Work, Options, Analysis, Outcome) :-
     catch(( result(Work, Options, Analysis, Result), Outcome = done(Result) ),
           Error,
           Outcome = failed(Error)),
-    (   Outcome = failed(Other), Other \= error(cti_error(_, _), _)
+    (   Outcome = failed(Other),
+        \+ ( Other = error(cti_error(Status, _), _), Status \== internal )
     ->  throw(Other)
     ;   true
     ).
@@ -99,7 +100,7 @@ result(Work, Options, Analysis, Result) :-
     ;   time_left(Work, More),
         cti_check(Work.pure, Certificate, [timeout(More)])
     ->  Checked = true
-    ;   throw(error(not_valid(Certificate), _))
+    ;   throw(error(cti_error(internal, "a certificate is not valid"), _))
     ),
     read_file_to_terms(Certificate, Facts, [encoding(utf8)]),
     modes_by_key(Work, Facts, Modes),
@@ -116,29 +117,25 @@ certificate_file(Analysis, Prefix, Certificate) :-
     ),
     file_name_extension(Prefix, Extension, Certificate).
 
-%   The certificate's predicates by key. One that it does not name has no
-%   clauses, and no call.
+%   The certificate's predicates by key. It names each predicate of the program,
+%   so a key that it does not name is an error of this program, and no mode.
 
 modes_by_key(Work, Facts, Modes) :-
     findall(Predicate-Sets, member(terminates(Predicate, Sets), Facts), Pairs),
     list_to_assoc(Pairs, ByName),
     findall(Key-Sets,
             ( member(Key-Predicate, Work.names),
-              (   get_assoc(Predicate, ByName, Sets0)
-              ->  true
-              ;   is_unused(Key, Work.program)
-              ->  Sets0 = [[]]
-              ;   throw(error(not_in_certificate(Key), _))
-              ),
+              certified_sets(Predicate, ByName, Sets0),
               key_sets(Key, Sets0, Sets) ),
             ByKey),
     list_to_assoc(ByKey, Modes).
 
-is_unused(Key, Program) :-
-    memberchk(predicate(Key, [], _), Program),
-    \+ ( member(predicate(_, Clauses, _), Program),
-         member(clause(_, Goals, _), Clauses),
-         memberchk(call(Key, _), Goals) ).
+certified_sets(Predicate, ByName, Sets) :-
+    (   get_assoc(Predicate, ByName, Sets0)
+    ->  Sets = Sets0
+    ;   format(string(Message), "the certificate does not name ~q", [Predicate]),
+        throw(error(cti_error(internal, Message), _))
+    ).
 
 %   An argument that stands for many is all of them.
 

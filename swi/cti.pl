@@ -334,7 +334,7 @@ depth_words(_, []).
 
 cti_session(Edits, Modes) :-
     must_be(list, Edits),
-    tmp_file_stream(text, Path, Stream),
+    tmp_file_stream(utf8, Path, Stream),
     call_cleanup(
         ( call_cleanup(maplist(write_edit(Stream), Edits), close(Stream)),
           run_cti([session, '--', file(Path)], Status, Facts, Message) ),

@@ -132,7 +132,7 @@ cti_file_answer(File, Answer, Options) :-
           program_graph(Program, Graph),
           components(Graph, Components),
           recursion(Components, Graph, Kinds),
-          analysed(PureFile, Prefix, Names, Program, Kinds, Found, Options) ),
+          analysed(PureFile, Prefix, Names, Kinds, Found, Options) ),
         forget_work_files(Prefix, Options)),
     Known = known{source:Source, program:Program, names:Names, graph:Graph, components:Components, kinds:Kinds,
                   found:Found},
