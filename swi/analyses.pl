@@ -17,6 +17,7 @@ The modes of all of them hold, so their union does.
 :- use_module(library(thread)).
 :- use_module(library(yall)).
 :- use_module(cti).
+:- use_module(note_reading).
 
 %   analysis(Analysis, By, Words, Check): cti is asked by Words, the modes that
 %   it finds ask for arguments that are known `By`, and Check says whether there
@@ -35,10 +36,10 @@ analysis(lists_of_mappings, ground, [lex], no_check).
 %
 %   of which none follows from another, and for each analysis that was done
 %
-%       result{analysis, by, facts, message, checked, modes}
+%       result{analysis, by, facts, notes, checked, modes}
 %
-%   with its certificate, what cti said beside it, and an assoc of each key's
-%   list of sets. The certificates' names begin with Prefix.
+%   with its certificate, cti's notes as of notes_read/3, and an assoc of each
+%   key's list of sets. The certificates' names begin with Prefix.
 
 analysed(PureFile, Prefix, Names, Kinds, found{modes:Modes, results:Results}, Options) :-
     option(timeout(Timeout), Options, 12),
@@ -104,7 +105,9 @@ result(Work, Options, Analysis, Result) :-
     ),
     read_file_to_terms(Certificate, Facts, [encoding(utf8)]),
     modes_by_key(Work, Facts, Modes),
-    Result = result{analysis:Analysis, by:By, facts:Facts, message:Message, checked:Checked, modes:Modes}.
+    cti_notes(Work.pure, Message, Notes0),
+    notes_read(Work.pure, Notes0, Notes),
+    Result = result{analysis:Analysis, by:By, facts:Facts, notes:Notes, checked:Checked, modes:Modes}.
 
 time_left(Work, Seconds) :-
     get_time(Now),

@@ -1,5 +1,7 @@
 :- module(answer_text,
           [ print_answer/1,             % +Answer
+            place_text/5,               % +File, +Line, +Column, +MainFile, -Text
+            file_shown/2,               % +File, -Shown
             reason_text/2,              % +Reason, -Text
             assumption_text/2           % +Doubt, -Text
           ]).
@@ -7,7 +9,6 @@
 /** <module> What is said of a real file, for people */
 
 :- use_module(library(lists)).
-:- use_module(real_builtins, [is_read_library/1]).
 
 %!  print_answer(+Answer:dict) is det.
 %
@@ -18,7 +19,7 @@ print_answer(Answer) :-
     (   Answer.assumptions == []
     ->  true
     ;   format("~nassumed:~n"),
-        forall(member(Assumption, Answer.assumptions), print_assumption(Assumption, Answer.file))
+        forall(member(Assumption, Answer.assumptions), print_assumption(Assumption))
     ),
     format("~nAlways assumed: no cyclic terms, and no attributed variables in the query. Not proved: that the pure program~n\
 covers the file. See docs/real-files.md.~n").
@@ -59,26 +60,37 @@ print_numbers(Numbers) :-
         format(" if ~w", [Text])
     ).
 
-print_assumption(Assumption, MainFile) :-
+print_assumption(Assumption) :-
     _{number:Number, file:File, line:Line, predicate:Predicate, text:Text} :< Assumption,
-    place_text(File, Line, MainFile, Place),
+    file_shown(File, Shown),
     (   Predicate == file
-    ->  format("~t~d~4|  ~w: ~s~n", [Number, Place, Text])
-    ;   format("~t~d~4|  ~w: ~q: ~s~n", [Number, Place, Predicate, Text])
+    ->  format("~t~d~4|  ~w:~w: ~s~n", [Number, Shown, Line, Text])
+    ;   format("~t~d~4|  ~w:~w: ~q: ~s~n", [Number, Shown, Line, Predicate, Text])
     ).
 
-%   place_text(+File, +Line, +MainFile, -Text): a file of SWI-Prolog's library
-%   is named as it is loaded.
+%!  place_text(+File, +Line, +Column, +MainFile, -Text) is det.
+%
+%   Line:Column, after what file_shown/2 says of a file that is not the main
+%   one.
 
-place_text(File, Line, MainFile, Text) :-
-    (   File \== MainFile,
-        current_prolog_flag(home, Home),
+place_text(File, Line, Column, MainFile, Text) :-
+    (   File == MainFile
+    ->  format(atom(Text), "~w:~w", [Line, Column])
+    ;   file_shown(File, Shown),
+        format(atom(Text), "~w:~w:~w", [Shown, Line, Column])
+    ).
+
+%!  file_shown(+File, -Shown) is det.
+%
+%   The base name; a file of SWI-Prolog's library is named as it is loaded.
+
+file_shown(File, Shown) :-
+    (   current_prolog_flag(home, Home),
         atomic_list_concat([Home, '/library/'], Library),
         atom_concat(Library, Rest, File),
         file_name_extension(Stem, pl, Rest)
-    ->  format(atom(Text), "library(~w):~w", [Stem, Line])
-    ;   file_base_name(File, Base),
-        Text = Base:Line
+    ->  format(atom(Shown), "library(~w)", [Stem])
+    ;   file_base_name(File, Shown)
     ).
 
 %!  reason_text(+Reason, -Text:string) is det.
@@ -94,13 +106,13 @@ reason_text(large(Count), Text) :-
     format(string(Text), "the predicates of its recursion have ~d arguments, more than 12: the search was cut short", [Count]).
 reason_text(blown, "the search was given up: its numbers or lists grew too large").
 reason_text(calls(Line, Predicate), Text) :-
-    format(string(Text), "line ~w calls ~q, which has none", [Line, Predicate]).
+    format(string(Text), "calls ~q in line ~w, which has none", [Predicate, Line]).
 reason_text(needs(Calls), Text) :-
     findall(One,
             ( member(call(Line, Predicate, Sets), Calls), format(atom(One), "~q ~w in line ~w", [Predicate, Sets, Line]) ),
             Texts),
     atomic_list_concat(Texts, ', ', All),
-    format(string(Text), "what these calls need ground is not sure to be: ~w", [All]).
+    format(string(Text), "what these calls need to be ground is not sure to be: ~w", [All]).
 reason_text(unknown, "no ground arguments make sure that its calls end").
 
 %!  assumption_text(+Doubt, -Text:string) is det.

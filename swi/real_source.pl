@@ -32,6 +32,7 @@ A predicate is Module:Name/Arity. A source is a dict:
 | expansions  | expansion(Kind,Pattern): what the file rewrites when loaded |
 | doubts      | doubt(Line,Doubt): what was not understood of the file      |
 | unread      | place(Path,Line,Column,Message) of each syntax error        |
+| operators   | the module that has the operators of its text               |
 */
 
 :- use_module(library(apply)).
@@ -54,7 +55,8 @@ read_source(File, Source) :-
     absolute_file_name(File, Path, [access(read), file_type(prolog)]),
     gensym('real source ', Scratch),        % a module of its own for the operators
     read_path(Path, Scratch, Items),
-    source_of(Path, Items, Source).
+    source_of(Path, Items, Source0),
+    Source = Source0.put(operators, Scratch).
 
 read_path(Path, Scratch, Items) :-
     State0 = state{path:Path, module:user, file_module:user, scratch:Scratch,

@@ -45,7 +45,7 @@ test(names_in_any_locale, [forall(member(Environment, [[], ['LC_ALL=C'], ['LC_AL
     with_file("größer(X) :- größer(X).\np(X) :- größer(X).\n'日本'([]).\n'日本'([_|T]) :- '日本'(T).\n", File,
               script_output(Environment, File, Status, Output)),
     Status == 0,
-    has_text(Output, "no mode: line 2 calls größer/1"),
+    has_text(Output, "no mode: calls größer/1 at 2:9, which has none"),
     \+ has_text(Output, "[[]]"),
     has_text(Output, "日本/1"),
     has_text(Output, "[[1]]").
