@@ -116,7 +116,10 @@ is_clause_of(Term, PI) :-
     ;   Plain = Plain0
     ),
     callable(Plain),
-    functor(Plain, Name, Arity0),
+    (   compound(Plain)
+    ->  compound_name_arity(Plain, Name, Arity0)
+    ;   Name = Plain, Arity0 = 0
+    ),
     (   Grammar == grammar
     ->  Arity is Arity0 + 2
     ;   Arity = Arity0

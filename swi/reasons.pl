@@ -263,6 +263,12 @@ arguments(Goal, Args) :-
     ;   Args = []
     ).
 
+goal_name(Goal, Name) :-
+    (   compound(Goal)
+    ->  compound_name_arity(Goal, Name, _)
+    ;   Name = Goal
+    ).
+
 %   lost_variables(+Clause, +Key, +Goal, +CallArgs, +Pure, -Lost): the names of
 %   the variables of Goal of which each is elsewhere in Clause, while what stands
 %   for it in the pure clause is nowhere else.
@@ -455,8 +461,10 @@ occurrence_with(Clause, Variable, Name/Arity, Place) :-
     sub_term(Sub, Goal),
     Sub == Variable,
     !,
-    functor(Goal, Name, Arity),
     Goal \= (_ = _),
+    arguments(Goal, Args),
+    length(Args, Arity),
+    goal_name(Goal, Name),
     occurrences(Clause, Name/Arity, Occurrences),
     member(Found-Place, Occurrences),
     Found == Goal,
