@@ -1,5 +1,8 @@
 :- module(answer_text,
           [ print_answer/1,             % +Answer
+            print_reply/2,              % +Reply, +Answer
+            modes_text/2,               % +Modes, -Text
+            numbers_text/2,             % +Numbers, -Text
             place_text/5,               % +File, +Line, +Column, +MainFile, -Text
             file_shown/2,               % +File, -Shown
             reason_text/2,              % +Reason, -Text
@@ -24,18 +27,38 @@ print_answer(Answer) :-
     format("~nAlways assumed: no cyclic terms, and no attributed variables in the query. Not proved: that the pure program~n\
 covers the file. See docs/real-files.md.~n").
 
+%!  print_reply(+Reply:dict, +Answer:dict) is det.
+%
+%   Prints the reply to a question, with the assumptions on which it rests.
+
+print_reply(Reply, Answer) :-
+    format("~w: ~w: ~s~n", [Reply.answer, Reply.query, Reply.text]),
+    (   Reply.answer == yes
+    ->  findall(Assumption,
+                ( member(Number, Reply.assumptions), member(Assumption, Answer.assumptions), Number == Assumption.number ),
+                Assumptions)
+    ;   Assumptions = []
+    ),
+    (   Assumptions == []
+    ->  true
+    ;   format("~nassumed:~n"),
+        forall(member(Assumption, Assumptions), print_assumption(Assumption))
+    ).
+
 print_predicate(Predicate) :-
     _{line:Line, name:Name, modes:Modes, reason_text:Reason, assumptions:Numbers} :< Predicate,
     format("~w~t~14|~q~t~48|", [Line, Name]),
     (   Modes == []
     ->  format(" no mode: ~s", [Reason])
     ;   modes_text(Modes, Text),
-        format(" ~s", [Text]),
-        print_numbers(Numbers)
+        numbers_text(Numbers, If),
+        format(" ~s~w", [Text, If])
     ),
     nl.
 
-%   modes_text(+Modes, -Text): [[1]] asks for ground arguments.
+%!  modes_text(+Modes, -Text:string) is det.
+%
+%   [[1]] asks for ground arguments.
 
 modes_text(Modes, Text) :-
     findall(Set, member(mode{arguments:Set, by:ground}, Modes), Ground),
@@ -47,17 +70,21 @@ modes_text(Modes, Text) :-
     ;   format(string(Text), "~w, ~w by length", [Ground, Lengths])
     ).
 
-print_numbers([]) :- !.
-print_numbers(Numbers) :-
+%!  numbers_text(+Numbers, -Text) is det.
+%
+%   Text is ` if 1, 3`, or nothing.
+
+numbers_text([], '') :- !.
+numbers_text(Numbers, Text) :-
     length(Numbers, Count),
     (   Count > 6
     ->  length(First, 5),
         append(First, _, Numbers),
-        atomic_list_concat(First, ', ', Text),
+        atomic_list_concat(First, ', ', List),
         Others is Count - 5,
-        format(" if ~w and ~d more", [Text, Others])
-    ;   atomic_list_concat(Numbers, ', ', Text),
-        format(" if ~w", [Text])
+        format(atom(Text), " if ~w and ~d more", [List, Others])
+    ;   atomic_list_concat(Numbers, ', ', List),
+        format(atom(Text), " if ~w", [List])
     ).
 
 print_assumption(Assumption) :-

@@ -2,7 +2,9 @@
           [ cti_file_modes/3,           % +File, -Modes, -Assumptions
             cti_file_modes/4,           % +File, -Modes, -Assumptions, +Options
             cti_file_answer/3,          % +File, -Answer, +Options
+            cti_file_ask/5,             % +File, +Query, -Reply, -Answer, +Options
             print_answer/1,             % +Answer
+            print_reply/2,              % +Reply, +Answer
             assumption_text/2           % +Doubt, -Text
           ]).
 
@@ -22,6 +24,7 @@ module is not proved; what cti says of the pure program is.
 :- use_module(library(yall)).
 :- use_module(answer_text).
 :- use_module(analyses).
+:- use_module(asking).
 :- use_module(components).
 :- use_module(places).
 :- use_module(pure_program).
@@ -122,20 +125,74 @@ ground_sets(Modes, Sets) :-
 %       Writes the pure program and its certificates there.
 
 cti_file_answer(File, Answer, Options) :-
+    with_analysis(File, Known, answer(Known, Answer), Options).
+
+%!  cti_file_ask(+File, +Query, -Reply:dict, -Answer:dict, +Options) is det.
+%
+%   Query is text as `app(b,f,f)`, with `b` for a ground argument, `l` for a
+%   list whose length is known, and `f` for any term. Reply is
+%
+%       reply{query, answer, text, places, assumptions}
+%
+%   answer is `yes` if each such query ends, where the assumptions hold; `no` if
+%   one of them does not, unless an error ends it; and else `unknown`. text says
+%   why, and places is a list of place(Path, Line, Column, Text). Answer and the
+%   options are as of cti_file_answer/3.
+%
+%   @throws error(no_predicate(Query), _) where the file has no such predicate.
+
+cti_file_ask(File, Query, Reply, Answer, Options) :-
+    with_analysis(File, Known, ( answer(Known, Answer), asked(Query, Known, Answer, Reply) ), Options).
+
+asked(Query, Known, Answer, Reply) :-
+    (   query_pattern(Query, Module, PI, Pattern)
+    ->  true
+    ;   throw(error(no_pattern(Query), _))
+    ),
+    (   member(Predicate, Answer.predicates),
+        asked_for(Predicate.name, Known.source.module, Module, PI, Key)
+    ->  true
+    ;   throw(error(no_predicate(Query), _))
+    ),
+    reply(Key, Pattern, Known, Predicate, Reply0),
+    Reply = Reply0.put(_{query:Query, assumptions:Predicate.assumptions}).
+
+asked_for(Name, FileModule, Module, PI, Module:PI) :-
+    (   Name = _:_
+    ->  Name = Module:PI
+    ;   Name = PI,
+        Module = FileModule
+    ).
+
+%   with_analysis(+File, -Known, :Goal, +Options): Goal is called with all that
+%   is known of the file, while the files of the work are there.
+
+:- meta_predicate with_analysis(+, -, 0, +).
+
+with_analysis(File, Known, Goal, Options) :-
     forget_places,
     read_source(File, Source),
     covering_program(Source, Program),
     setup_call_cleanup(
         work_files(Source.path, Prefix, Options),
-        ( file_name_extension(Prefix, 'pure.pl', PureFile),
-          write_program(Program, PureFile, Names),
-          program_graph(Program, Graph),
-          components(Graph, Components),
-          recursion(Components, Graph, Kinds),
-          analysed(PureFile, Prefix, Names, Kinds, Found, Options) ),
-        forget_work_files(Prefix, Options)),
-    Known = known{source:Source, program:Program, names:Names, graph:Graph, components:Components, kinds:Kinds,
-                  found:Found},
+        ( known(Source, Program, Prefix, Known, Options),
+          once(Goal) ),
+        forget_work_files(Prefix, Options)).
+
+known(Source, Program, Prefix, Known, Options) :-
+    file_name_extension(Prefix, 'pure.pl', PureFile),
+    write_program(Program, PureFile, Names),
+    program_graph(Program, Graph),
+    components(Graph, Components),
+    recursion(Components, Graph, Kinds),
+    analysed(PureFile, Prefix, Names, Kinds, Found, Options),
+    Known0 = known{source:Source, program:Program, pure_file:PureFile, names:Names, graph:Graph, components:Components,
+                   kinds:Kinds, found:Found},
+    reasoning(Known0, Reasoning),
+    Known = Known0.put(reasoning, Reasoning).
+
+answer(Known, Answer) :-
+    _{source:Source, found:Found} :< Known,
     answer_predicates(Known, Predicates, Assumptions),
     findall(certificate{kind:Analysis, facts:Count, checked:Checked},
             ( member(Result, Found.results),
@@ -178,14 +235,13 @@ answer_predicates(Known, Predicates, Assumptions) :-
             Notes0),
     sort(Notes0, Notes),
     numbered_notes(Notes, Source, Numbers, Assumptions),
-    reasoning(Known, Reasoning),
     findall(Predicate,
             ( member(Key, Own),
-              own_predicate(Key, Known, Below, Numbers, Reasoning, Predicate) ),
+              own_predicate(Key, Known, Below, Numbers, Predicate) ),
             Predicates0),
     sorted_by_place(Predicates0, Predicates).
 
-own_predicate(Key, Known, Below, Numbers, Reasoning, Predicate) :-
+own_predicate(Key, Known, Below, Numbers, Predicate) :-
     Source = Known.source,
     Key = _:PI,
     shown(Key, Source.module, Name),
@@ -203,7 +259,7 @@ own_predicate(Key, Known, Below, Numbers, Reasoning, Predicate) :-
     findall(Analysis, ( member(found(_, _, Analyses), Found), member(Analysis, Analyses) ), FoundBy0),
     sort(FoundBy0, FoundBy),
     (   Modes == []
-    ->  reason(Key, Reasoning, Reason, Text, Places)
+    ->  reason(Key, Known.reasoning, Reason, Text, Places)
     ;   Reason = none, Text = "", Places = []
     ),
     Predicate = predicate{name:Name, file:File, line:Line, column:Column, exported:Exported, modes:Modes,

@@ -1,6 +1,7 @@
 :- module(real_goals,
           [ predicate_clauses/4,        % +Main, +Key, -Clauses, -Found
-            source_of/3                 % +Main, +Predicate, -Source
+            source_of/3,                % +Main, +Predicate, -Source
+            pure_term/2                 % +Term, -Pure
           ]).
 
 /** <module> Real clauses as pure clauses that cover them

@@ -1,6 +1,7 @@
 :- module(reasons,
           [ reasoning/2,                % +Known, -Reasoning
             reason/5,                   % +Key, +Reasoning, -Reason, -Text, -Places
+            call_need/7,                % +Key, +Clause, +Goal, +Found, +Reasoning, -Text, -Places
             named_key/2,                % +Key, -Named
             shown/3                     % +Key, +Module, -Shown
           ]).
@@ -33,7 +34,7 @@ is no note of each predicate; of others it is taken from the certificate.
 :- use_module(library(yall)).
 :- use_module(answer_text).
 :- use_module(places).
-:- use_module(real_goals, [source_of/3]).
+:- use_module(real_goals, [pure_term/2, source_of/3]).
 
 %!  reasoning(+Known:dict, -Reasoning:dict) is det.
 %
@@ -48,14 +49,23 @@ reasoning(Known, Reasoning) :-
     transposed(Known.names, ByName),
     given_up(First.facts, ByName, GivenUp),
     findall(Key-What, ( member(said(Name, What), First.notes), get_assoc(Name, ByName, Key) ), Notes),
+    ground_rows(First.facts, ByName, Grounds),
     Reasoning = reasoning{source:Known.source, program:Known.program, clauses:ClausesOf, modes:First.modes,
                           found:Known.found.modes, given_up:GivenUp, notes:Notes, by:First.by,
-                          components:ComponentOf}.
+                          components:ComponentOf, grounds:Grounds}.
 
 transposed(Names, ByName) :-
     findall(Name-Key, member(Key-Name, Names), Pairs0),
     sort(1, @<, Pairs0, Pairs),
     list_to_assoc(Pairs, ByName).
+
+%   Which arguments of each key are ground together in its answers.
+
+ground_rows(Facts, ByName, Grounds) :-
+    findall(Key-Row, ( member(grounds(Name, _, Row), Facts), get_assoc(Name, ByName, Key) ), Pairs0),
+    keysort(Pairs0, Pairs),
+    group_pairs_by_key(Pairs, Groups),
+    list_to_assoc(Groups, Grounds).
 
 %!  reason(+Key, +Reasoning:dict, -Reason, -Text:string, -Places) is det.
 %
@@ -137,6 +147,21 @@ from_note(unmet(Calls), _, Known, needs(Shown), Text, Places) :-
             ( member(Call, Seen), _{path:Path, line:Line, column:Column} :< Call ),
             Places).
 
+%!  call_need(+Key, +Clause, +Goal, +Found, +Reasoning:dict, -Text, -Places) is det.
+%
+%   Text says that the call of this number in the body of Clause, of the pure
+%   program, needs one of the modes Found.
+
+call_need(Key, Clause, GoalNumber, Found, Known, Text, [place(Path, Line, Column, PlaceText)]) :-
+    seen_goal(Known, Key, Clause, GoalNumber, Seen),
+    _{path:Path, line:Line, column:Column} :< Seen,
+    call_text(Seen, CallText),
+    findall(One, ( member(found(Set, By, _), Found), arguments_text(Set, Arguments), known_word(By, Word),
+                   format(atom(One), "~w ~w", [Arguments, Word]) ), Ones),
+    atomic_list_concat(Ones, ' or ', Needs),
+    format(string(Text), "~w needs ~w, and that is not sure", [CallText, Needs]),
+    format(string(PlaceText), "this call needs ~w", [Needs]).
+
 %   A call of what has no mode: a part of the clause is the clause's own, and of
 %   a library's predicate it is said what it lacks.
 
@@ -200,7 +225,10 @@ is_own(Key, Known) :-
 %   are the variables of the goal of which the pure program knows nothing.
 
 seen_call(Known, at(Number, GoalNumber), Seen) :-
-    clause_number(Known.program, Number, Key, clause(Args, Goals, Place)),
+    clause_number(Known.program, Number, Key, Clause),
+    seen_goal(Known, Key, Clause, GoalNumber, Seen).
+
+seen_goal(Known, Key, clause(Args, Goals, Place), GoalNumber, Seen) :-
     nth1(GoalNumber, Goals, call(Callee, CallArgs)),
     named_key(Key, Named),
     shown_key(Callee, Known, Shown),
@@ -251,7 +279,7 @@ occurrence_of(Clause, PI, Args, Before, Goal, Place) :-
 
 looks_like(Args, Goal-_) :-
     arguments(Goal, GoalArgs),
-    maplist(real_goals:pure_term, GoalArgs, Pure),
+    maplist(pure_term, GoalArgs, Pure),
     length(Pure, Count),
     length(First, Count),
     append(First, _, Args),
