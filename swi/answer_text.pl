@@ -46,7 +46,7 @@ print_reply(Reply, Answer) :-
     ).
 
 print_predicate(Predicate) :-
-    _{line:Line, name:Name, modes:Modes, reason_text:Reason, assumptions:Numbers} :< Predicate,
+    _{line:Line, name:Name, modes:Modes, reason_text:Reason, assumptions:Numbers, not_shown:NotShown} :< Predicate,
     format("~w~t~14|~q~t~48|", [Line, Name]),
     (   Modes == []
     ->  format(" no mode: ~s", [Reason])
@@ -54,7 +54,8 @@ print_predicate(Predicate) :-
         numbers_text(Numbers, If),
         format(" ~s~w", [Text, If])
     ),
-    nl.
+    nl,
+    forall(member(place(_, _, _, Wanted), NotShown), format("~t~49|~s~n", [Wanted])).
 
 %!  modes_text(+Modes, -Text:string) is det.
 %
@@ -120,26 +121,13 @@ file_shown(File, Shown) :-
     ;   file_base_name(File, Shown)
     ).
 
-%!  reason_text(+Reason, -Text:string) is det.
+%!  reason_text(+Reason, -Text:string) is semidet.
+%
+%   The text of a reason that names no place.
 
-reason_text(nothing_falls(Calls), Text) :-
-    findall(One, ( member(call(Line, Predicate), Calls), format(atom(One), "~q in line ~w", [Predicate, Line]) ), Texts),
-    atomic_list_concat(Texts, ', ', Where),
-    (   Calls = [_]
-    ->  format(string(Text), "no weighted sum of its arguments' sizes gets smaller at the call of ~w", [Where])
-    ;   format(string(Text), "no single weighted sum of its arguments' sizes gets smaller at all of these calls: ~w", [Where])
-    ).
 reason_text(large(Count), Text) :-
     format(string(Text), "the predicates of its recursion have ~d arguments, more than 12: the search was cut short", [Count]).
 reason_text(blown, "the search was given up: its numbers or lists grew too large").
-reason_text(calls(Line, Predicate), Text) :-
-    format(string(Text), "calls ~q in line ~w, which has none", [Predicate, Line]).
-reason_text(needs(Calls), Text) :-
-    findall(One,
-            ( member(call(Line, Predicate, Sets), Calls), format(atom(One), "~q ~w in line ~w", [Predicate, Sets, Line]) ),
-            Texts),
-    atomic_list_concat(Texts, ', ', All),
-    format(string(Text), "what these calls need to be ground is not sure to be: ~w", [All]).
 reason_text(unknown, "no ground arguments make sure that its calls end").
 
 %!  assumption_text(+Doubt, -Text:string) is det.

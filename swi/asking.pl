@@ -2,7 +2,8 @@
           [ query_pattern/4,            % +Text, -Module, -PI, -Pattern
             reply/5,                    % +Key, +Pattern, +Known, +Predicate, -Reply
             meets/2,                    % +Pattern, +Mode
-            pattern_need/4              % +Key, +Pattern, +Reasoning, -Need
+            pattern_need/4,             % +Key, +Pattern, +Reasoning, -Need
+            lacking_calls/2             % +Known, -Lacking
           ]).
 
 /** <module> Does a query of this pattern end?
@@ -307,6 +308,41 @@ lacking_call(Key, Pattern, Reasoning, Text, Places) :-
          forall(( member(I, Set), nth1(I, CallArgs, Arg) ), is_ground_by(KnownThere, Arg)) ),
     !,
     call_need(Key, clause(Args, Goals, Line), Index, Found, Reasoning, Text, Places).
+
+%!  lacking_calls(+Known:dict, -Lacking) is det.
+%
+%   Lacking has Callee-call(Pattern, Path, Line, Column) for the calls in clauses
+%   of predicates without modes that none of the callee's modes meets, even if
+%   all arguments of the clause's head are ground.
+
+lacking_calls(Known, Lacking) :-
+    Reasoning = Known.reasoning,
+    findall(Callee-call(Pattern, Path, Line, Column),
+            ( gen_assoc(Key, Reasoning.found, []),
+              named_key(Key, Named),
+              \+ Named = system:_,
+              get_assoc(Key, Reasoning.clauses, Clauses),
+              get_assoc(Key, Reasoning.components, Component),
+              member(Clause, Clauses),
+              lacking_in(Key, Clause, Component, Reasoning, Callee, Pattern, Path, Line, Column) ),
+            Lacking).
+
+lacking_in(Key, clause(Args, Goals, Place), Component, Reasoning, Callee, Pattern, Path, Line, Column) :-
+    term_variables(Args, Known),
+    nth_call(Goals, Known, Reasoning, 1, Index, Callee, CallArgs, KnownThere),
+    Callee = _:_,
+    \+ memberchk(Callee, Component),
+    get_assoc(Callee, Reasoning.found, Found),
+    Found \== [],
+    maplist(letter(KnownThere), CallArgs, Pattern),
+    \+ ( member(found(Arguments, By, _), Found), meets(Pattern, mode{arguments:Arguments, by:By}) ),
+    call_place(Key, clause(Args, Goals, Place), Index, Reasoning, Path, Line, Column).
+
+letter(Known, Arg, Letter) :-
+    (   is_ground_by(Known, Arg)
+    ->  Letter = b
+    ;   Letter = f
+    ).
 
 known_arguments([], _, []) :- !.
 known_arguments(_, [], []) :- !.

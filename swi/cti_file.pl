@@ -26,6 +26,7 @@ module is not proved; what cti says of the pure program is.
 :- use_module(analyses).
 :- use_module(asking).
 :- use_module(components).
+:- use_module(patterns).
 :- use_module(places).
 :- use_module(pure_program).
 :- use_module(real_builtins, [is_protected/1]).
@@ -97,7 +98,7 @@ ground_sets(Modes, Sets) :-
 %   whether `cti check` accepted it. A predicate is
 %
 %       predicate{ name, file, line, column, exported, modes, reason, reason_text,
-%                  reason_places, assumptions, recursion, found_by }
+%                  reason_places, assumptions, recursion, found_by, not_shown }
 %
 %   where modes is a list of mode{arguments, by}: every query ends in which
 %   the arguments are `ground`, or known by `length` (docs/real-files.md). No
@@ -106,7 +107,9 @@ ground_sets(Modes, Sets) :-
 %   place(Path, Line, Column, Text). assumptions has the numbers of those
 %   that it relies on. recursion is `recursive`, `calls` if it calls a
 %   recursive predicate, or `plain`. found_by has the analyses that found
-%   the modes. An assumption is
+%   the modes. not_shown has place(Path, Line, Column, Text) for patterns that
+%   a comment of PlDoc or a call in the file wants, and no mode meets, where
+%   there are modes. An assumption is
 %
 %       assumption{number, file, line, predicate, doubt, text}
 %
@@ -189,7 +192,9 @@ known(Source, Program, Prefix, Known, Options) :-
     Known0 = known{source:Source, program:Program, pure_file:PureFile, names:Names, graph:Graph, components:Components,
                    kinds:Kinds, found:Found},
     reasoning(Known0, Reasoning),
-    Known = Known0.put(reasoning, Reasoning).
+    Known1 = Known0.put(reasoning, Reasoning),
+    lacking_calls(Known1, Lacking),
+    Known = Known1.put(lacking, Lacking).
 
 answer(Known, Answer) :-
     _{source:Source, found:Found} :< Known,
@@ -262,9 +267,10 @@ own_predicate(Key, Known, Below, Numbers, Predicate) :-
     ->  reason(Key, Known.reasoning, Reason, Text, Places)
     ;   Reason = none, Text = "", Places = []
     ),
+    not_shown(Key, Modes, Known, NotShown),
     Predicate = predicate{name:Name, file:File, line:Line, column:Column, exported:Exported, modes:Modes,
                           reason:Reason, reason_text:Text, reason_places:Places, assumptions:Assumptions,
-                          recursion:Recursion, found_by:FoundBy}.
+                          recursion:Recursion, found_by:FoundBy, not_shown:NotShown}.
 
 sorted_by_place(Predicates, Sorted) :-
     findall(key(File, Line, Name)-Predicate,

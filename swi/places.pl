@@ -3,6 +3,7 @@
             place_of_line/5,            % +Place, +Path, -File, -Line, -Column
             clause_at/5,                % +File, +Line, +Operators, +PI, -Clause
             occurrences/3,              % +Clause, +PI, -Occurrences
+            comment_pattern/4,          % +File, ?Line, ?PI, -Pattern
             variable_name/3             % +Clause, +Variable, -Name
           ]).
 
@@ -256,3 +257,71 @@ variable_name(Clause, Variable, Name) :-
     member(Name=Other, Clause.names),
     Other == Variable,
     !.
+
+
+%!  comment_pattern(+File, ?Line, ?PI, -Pattern) is nondet.
+%
+%   A comment of PlDoc at Line gives this pattern of PI: `b` where its argument
+%   is said to be known, by `+`, `++`, `:` or `!`, and else `f`.
+
+comment_pattern(File, Line, Name/Arity, Pattern) :-
+    lines(File, Lines),
+    arg(Line, Lines, Text),
+    comment_text(Text, Head),
+    comment_term(Head, Term),
+    comment_head(Term, Plain, More),
+    callable(Plain),
+    Plain =.. [Name|Args],
+    atom(Name),
+    maplist(argument_letter, Args, Letters),
+    append(Letters, More, Pattern),
+    length(Pattern, Arity).
+
+comment_text(Text, Head) :-
+    member(Mark, ["%!", "%%", "/**"]),
+    string_concat(Mark, Rest, Text),
+    \+ sub_string(Rest, 0, 1, _, "%"),
+    split_string(Rest, "", " \t", [Head0]),
+    Head0 \== "",
+    (   sub_string(Head0, Before, _, 0, ".")
+    ->  sub_string(Head0, 0, Before, _, Head)
+    ;   Head = Head0
+    ).
+
+:- op(100, xf, places:(//)).
+:- op(200, xfx, places:(::)).
+:- op(200, fy, places:(++)).
+:- op(200, fy, places:(--)).
+:- op(200, fy, places:(?)).
+:- op(200, fy, places:(:)).
+:- op(200, fy, places:(@)).
+:- op(200, fy, places:(!)).
+
+comment_term(Text, Term) :-
+    catch(term_string(Term, Text, [module(places), syntax_errors(error)]), _, fail),
+    nonvar(Term).
+
+comment_head(Term is _, Head, More) :-
+    !,
+    comment_head(Term, Head, More).
+comment_head(_:Term, Head, More) :-
+    !,
+    nonvar(Term),
+    comment_head(Term, Head, More).
+comment_head(Term, Head, More) :-
+    (   Term = //(Head0)
+    ->  Head = Head0,
+        More = [b, f]
+    ;   Head = Term,
+        More = []
+    ).
+
+argument_letter(Argument, Letter) :-
+    (   nonvar(Argument), Argument = Typed:_, nonvar(Typed)
+    ->  argument_letter(Typed, Letter)
+    ;   nonvar(Argument),
+        compound_name_arguments(Argument, Mark, [_]),
+        memberchk(Mark, [+, ++, :, !])
+    ->  Letter = b
+    ;   Letter = f
+    ).

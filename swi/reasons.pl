@@ -2,6 +2,7 @@
           [ reasoning/2,                % +Known, -Reasoning
             reason/5,                   % +Key, +Reasoning, -Reason, -Text, -Places
             call_need/7,                % +Key, +Clause, +Goal, +Found, +Reasoning, -Text, -Places
+            call_place/7,               % +Key, +Clause, +Goal, +Reasoning, -Path, -Line, -Column
             named_key/2,                % +Key, -Named
             shown/3                     % +Key, +Module, -Shown
           ]).
@@ -22,8 +23,9 @@ A reason is one of
 where a call is call(Line, Predicate), or call(Line, Predicate, Sets) with the
 modes of the predicate. Line is a line of the file, or library(Name):Line.
 
-It is what cti's own note says, with the calls as they stand in the file. There
-is no note of each predicate; of others it is taken from the certificate.
+It is what cti's own note says, with the calls as they stand in the file. cti
+writes at most twenty notes; of other predicates it is taken from the
+certificate.
 */
 
 :- use_module(library(apply)).
@@ -50,14 +52,24 @@ reasoning(Known, Reasoning) :-
     given_up(First.facts, ByName, GivenUp),
     findall(Key-What, ( member(said(Name, What), First.notes), get_assoc(Name, ByName, Key) ), Notes),
     ground_rows(First.facts, ByName, Grounds),
+    first_numbers(Known.program, 1, Numbers0),
+    list_to_assoc(Numbers0, Numbers),
     Reasoning = reasoning{source:Known.source, program:Known.program, clauses:ClausesOf, modes:First.modes,
                           found:Known.found.modes, given_up:GivenUp, notes:Notes, by:First.by,
-                          components:ComponentOf, grounds:Grounds}.
+                          components:ComponentOf, grounds:Grounds, numbers:Numbers}.
 
 transposed(Names, ByName) :-
     findall(Name-Key, member(Key-Name, Names), Pairs0),
     sort(1, @<, Pairs0, Pairs),
     list_to_assoc(Pairs, ByName).
+
+%   The number of each key's first clause.
+
+first_numbers([], _, []).
+first_numbers([predicate(Key, Clauses, _)|Program], Number, [Key-Number|Numbers]) :-
+    length(Clauses, Count),
+    Next is Number + Count,
+    first_numbers(Program, Next, Numbers).
 
 %   Which arguments of each key are ground together in its answers.
 
@@ -73,10 +85,10 @@ ground_rows(Facts, ByName, Grounds) :-
 
 reason(Key, Known, Reason, Text, Places) :-
     get_assoc(Key, Known.components, Component),
-    (   said_of(Component, Known, What),
+    (   ( said_of(Component, Known, What) ; certified(Component, Known, What) ),
         from_note(What, Component, Known, Reason, Text0, Places0)
     ->  Text = Text0, Places = Places0
-    ;   from_certificate(Component, Known, Reason),
+    ;   Reason = unknown,
         reason_text(Reason, Text),
         Places = []
     ).
@@ -115,21 +127,28 @@ from_note(falls_not(Calls), _, Known, nothing_falls(Shown), Text, Places) :-
 from_note(callee(Call), Component, Known, Reason, Text, Places) :-
     seen_call(Known, Call, Seen),
     called_cause(Seen, Component, Known, Reason, Text, Places).
-from_note(needs(Call, Names, After, _), Component, Known, needs([call(Line, Shown, Sets)]), Text, Places) :-
+from_note(needs(Call, Names, After, _), _, Known, needs([call(Line, Shown, Sets)]), Text, Places) :-
     seen_call(Known, Call, Seen),
     _{line:Line0, shown:Shown, key:Callee, path:Path, column:Column} :< Seen,
     line_shown(Known, Path, Line0, Line),
     modes_of(Callee, Known, Sets),
     known_word(Known.by, Word),
     needs_text(Sets, Needs),
-    names_text(Names, Seen, NamesText),
+    append(Sets, Needed),
+    include(is_lost_in(Needed), Seen.lost, Lost),
+    names_text(Names, Lost, Seen, NamesText),
     call_text(Seen, CallText),
     after_text(After, Known, AfterText),
-    need_hint(Seen, Component, Known, Hint),
+    lost_hint([Seen.put(lost, Lost)], Hint),
     format(string(Text), "~w needs ~w ~w, and ~w not sure to be~w~s", [CallText, Needs, Word, NamesText, AfterText, Hint]),
     format(string(PlaceText), "this call needs ~w ~w", [Needs, Word]),
     Places = [place(Path, Line0, Column, PlaceText)].
-from_note(unmet(Calls), _, Known, needs(Shown), Text, Places) :-
+from_note(unmet(Calls), _, Known, Reason, Text, Places) :-
+    needing("no ~w arguments of a query are enough for all of these calls: ~w", Calls, Known, Reason, Text, Places).
+from_note(unsure(Calls), _, Known, Reason, Text, Places) :-
+    needing("not all that these calls need is sure to be ~w: ~w", Calls, Known, Reason, Text, Places).
+
+needing(Format, Calls, Known, needs(Shown), Text, Places) :-
     maplist(seen_call(Known), Calls, Seen0),
     own_first(Seen0, Seen, _),
     findall(call(Line, PI, Sets),
@@ -139,10 +158,16 @@ from_note(unmet(Calls), _, Known, needs(Shown), Text, Places) :-
               modes_of(Callee, Known, Sets) ),
             Shown),
     Shown = [_|_],
-    findall(One, ( member(Call, Seen), call_text(Call, One) ), Texts),
+    findall(One,
+            ( member(Call, Seen),
+              call_text(Call, CallText),
+              _{key:Callee} :< Call,
+              modes_of(Callee, Known, Sets),
+              format(atom(One), "~w ~w", [CallText, Sets]) ),
+            Texts),
     atomic_list_concat(Texts, ', ', Where),
     known_word(Known.by, Word),
-    format(string(Text), "no ~w arguments of a query are enough for all of these calls: ~w", [Word, Where]),
+    format(string(Text), Format, [Word, Where]),
     findall(place(Path, Line, Column, "this call needs more than is known"),
             ( member(Call, Seen), _{path:Path, line:Line, column:Column} :< Call ),
             Places).
@@ -161,6 +186,15 @@ call_need(Key, Clause, GoalNumber, Found, Known, Text, [place(Path, Line, Column
     atomic_list_concat(Ones, ' or ', Needs),
     format(string(Text), "~w needs ~w, and that is not sure", [CallText, Needs]),
     format(string(PlaceText), "this call needs ~w", [Needs]).
+
+%!  call_place(+Key, +Clause, +Goal, +Reasoning:dict, -Path, -Line, -Column) is semidet.
+%
+%   The place of the call of this number in the body of Clause, of the pure
+%   program.
+
+call_place(Key, Clause, GoalNumber, Known, Path, Line, Column) :-
+    seen_goal(Known, Key, Clause, GoalNumber, Seen),
+    _{path:Path, line:Line, column:Column} :< Seen.
 
 %   A call of what has no mode: a part of the clause is the clause's own, and of
 %   a library's predicate it is said what it lacks.
@@ -297,37 +331,20 @@ goal_name(Goal, Name) :-
     ;   Name = Goal
     ).
 
-%   lost_variables(+Clause, +Key, +Goal, +CallArgs, +Pure, -Lost): the names of
-%   the variables of Goal of which each is elsewhere in Clause, while what stands
-%   for it in the pure clause is nowhere else.
+%   lost_variables(+Clause, +Key, +Goal, +CallArgs, +Pure, -Lost): Argument-Name
+%   for the variables of Goal of which each is elsewhere in Clause, while what
+%   stands for it in the pure clause is nowhere else.
 
 lost_variables(Clause, Key, Goal, CallArgs, Pure, Lost) :-
-    Key = _:_,
     arguments(Goal, GoalArgs),
-    length(GoalArgs, Count),
-    length(First, Count),
-    append(First, _, CallArgs),
-    !,
-    findall(Name,
-            ( nth1(I, GoalArgs, Real),
-              nth1(I, First, PureArg),
-              var(PureArg),
-              occurrences_of_var(PureArg, Pure, 1),
-              term_variables(Real, Variables),
-              member(Variable, Variables),
-              occurrences_of_var(Variable, Clause.term, Times),
-              Times > 1,
-              variable_name(Clause, Variable, Name) ),
-            Lost0),
-    sort(Lost0, Lost).
-lost_variables(Clause, special(_, Closures), Goal, CallArgs, Pure, Lost) :-
-    arguments(Goal, GoalArgs0),
-    same_length(GoalArgs0, Closures),
-    findall(I, nth1(I, Closures, -), Is),
-    !,
-    findall(Name,
+    (   Key = special(_, Closures),
+        same_length(GoalArgs, Closures)
+    ->  findall(I, nth1(I, Closures, -), Is)
+    ;   findall(I, nth1(I, GoalArgs, _), Is)
+    ),
+    findall(I-Name,
             ( nth1(Nth, Is, I),
-              nth1(I, GoalArgs0, Real),
+              nth1(I, GoalArgs, Real),
               nth1(Nth, CallArgs, PureArg),
               var(PureArg),
               occurrences_of_var(PureArg, Pure, 1),
@@ -338,7 +355,6 @@ lost_variables(Clause, special(_, Closures), Goal, CallArgs, Pure, Lost) :-
               variable_name(Clause, Variable, Name) ),
             Lost0),
     sort(Lost0, Lost).
-lost_variables(_, _, _, _, _, []).
 
 own_first(Seen, Own, Others) :-
     partition(is_in_file, Seen, Own0, Others0),
@@ -389,11 +405,16 @@ arguments_text(Set, Text) :-
     atomic_list_concat(First, ', ', Commas),
     format(atom(Text), "arguments ~w and ~d", [Commas, Last]).
 
-%   names_text(+PureNames, +Seen, -Text): which variables of the file these are.
+is_lost_in(Arguments, Argument-_) :-
+    memberchk(Argument, Arguments).
 
-names_text(PureNames, Seen, Text) :-
+%   names_text(+PureNames, +Lost, +Seen, -Text): which variables of the file these
+%   are.
+
+names_text(PureNames, Lost, Seen, Text) :-
     findall(Name, ( member(PureName, PureNames), source_name(PureName, Seen, Name) ), Names0),
-    append(Names0, Seen.lost, Names1),
+    findall(Name, member(_-Name, Lost), LostNames),
+    append(Names0, LostNames, Names1),
     sort(Names1, Names),
     (   Names == []
     ->  Text = 'that is'
@@ -450,13 +471,10 @@ after_text(At, Known, Text) :-
 %   Hints: what a variable is bound by, of which nothing is known; and what a
 %   lambda expression makes anew.
 
-need_hint(Seen, _, _, Hint) :-
-    lost_hint([Seen], Hint).
-
 lost_hint(Seen, Hint) :-
     (   member(Call, Seen),
         Call.clause \== none,
-        member(Name, Call.lost),
+        member(_-Name, Call.lost),
         binder(Call, Name, Binder, Place)
     ->  place_shown(Place, PlaceText),
         format(string(Hint), "; nothing is known of what ~q at ~w gives for `~w`", [Binder, PlaceText, Name])
@@ -520,6 +538,7 @@ is_control((A ; B), A, B).
 is_control((A -> B), A, B).
 is_control((A *-> B), A, B).
 is_control(\+ A, A, true).
+is_control({A}, A, true).
 
 %   A lambda expression without {..}/ has new variables each time.
 
@@ -553,30 +572,22 @@ global_names(Clause, Lambda, Parameters, Body, Names) :-
     sort(Names0, Names).
 
 
-%   from_certificate(+Component, +Known, -Reason)
+%   certified(+Component, +Known, -What): the same as a note, from the facts of
+%   the certificate.
 
-from_certificate(Component, Known, Reason) :-
-    (   member(Member, Component),
-        get_assoc(Member, Known.given_up, Given)
-    ->  given_reason(Given, Known, Reason)
-    ;   with_parts(Component, Known, Inside),
-        (   outside_call(Inside, Known, Line, Callee, [])
-        ->  shown_key(Callee, Known, Shown),
-            Reason = calls(Line, Shown)
-        ;   needing_calls(Inside, Known, Calls),
-            Calls \== []
-        ->  Reason = needs(Calls)
-        ;   Reason = unknown
-        )
+certified(Component, Known, What) :-
+    member(Member, Component),
+    get_assoc(Member, Known.given_up, What),
+    !.
+certified(Component, Known, What) :-
+    with_parts(Component, Known, Inside),
+    findall(At-Sets, outside_call(Inside, Known, At, _, Sets), Calls),
+    (   memberchk(At-[], Calls)
+    ->  What = callee(At)
+    ;   findall(At, ( member(At-Sets, Calls), \+ memberchk([], Sets) ), Ats),
+        Ats \== [],
+        What = unsure(Ats)
     ).
-
-needing_calls(Inside, Known, Calls) :-
-    findall(call(Line, Shown, Sets),
-            ( outside_call(Inside, Known, Line, Callee, Sets),
-              \+ memberchk([], Sets),
-              shown_key(Callee, Known, Shown) ),
-            Calls0),
-    sort(Calls0, Calls).
 
 %   with_parts(+Keys, +Known, -Inside): the keys, and the parts of clauses that
 %   they call, which are not the reader's.
@@ -592,26 +603,16 @@ with_parts(Keys, Known, Inside) :-
         with_parts(More, Known, Inside)
     ).
 
-outside_call(Component, Known, Line, Callee, Sets) :-
+outside_call(Component, Known, at(Number, GoalNumber), Callee, Sets) :-
     member(Key, Component),
     get_assoc(Key, Known.clauses, Clauses),
-    member(clause(_, Goals, Line0), Clauses),
-    member(call(Callee, _), Goals),
+    get_assoc(Key, Known.numbers, First),
+    nth0(I, Clauses, clause(_, Goals, _)),
+    Number is First + I,
+    nth1(GoalNumber, Goals, call(Callee, _)),
     Callee \== fail,
     \+ memberchk(Callee, Component),
-    get_assoc(Callee, Known.modes, Sets),
-    key_line(Key, Known, Line0, Line).
-
-%   key_line(+Key, +Known, +Line0, -Line): a line of a library is said as one.
-
-key_line(Key, Known, Line0, Line) :-
-    named_key(Key, Named),
-    (   Named = _:_,
-        source_of(Known.source, Named, Source),
-        Source.path \== Known.source.path
-    ->  line_shown(Known, Source.path, Line0, Line)
-    ;   Line = Line0
-    ).
+    get_assoc(Callee, Known.modes, Sets).
 
 shown_key(Key, Known, Shown) :-
     named_key(Key, Named),
@@ -659,31 +660,20 @@ nth_fact([Fact|Facts], Facts, Fact).
 nth_fact([_|Facts], Rest, Fact) :-
     nth_fact(Facts, Rest, Fact).
 
-given(none(Predicate, Count), Rest, Predicate, points(Calls)) :-
+given(none(Predicate, Count), Rest, Predicate, falls_not(Calls)) :-
     first_points(Count, Rest, Calls).
-given(large(Predicate, Count), _, Predicate, large(Count)).
-given(blown(Predicate, _), _, Predicate, blown).
+given(large(Predicate, Count), _, Predicate, given_up(large(Count))).
+given(blown(Predicate, _), _, Predicate, given_up(blown)).
 
 first_points(0, _, []) :- !.
 first_points(Count, [Fact|Facts], Calls) :-
     (   Fact = point(Clause, Call, _, _)
     ->  Next is Count - 1,
-        Calls = [Clause-Call|More],
+        Calls = [at(Clause, Call)|More],
         first_points(Next, Facts, More)
     ;   first_points(Count, Facts, Calls)
     ).
 first_points(_, [], []).
-
-given_reason(large(Count), _, large(Count)).
-given_reason(blown, _, blown).
-given_reason(points(Pairs), Known, nothing_falls(Calls)) :-
-    findall(call(Line, Shown),
-            ( member(ClauseNumber-CallNumber, Pairs),
-              clause_number(Known.program, ClauseNumber, Key, clause(_, Goals, Line0)),
-              nth1(CallNumber, Goals, call(Callee, _)),
-              key_line(Key, Known, Line0, Line),
-              shown_key(Callee, Known, Shown) ),
-            Calls).
 
 %   clause_number(+Program, +Number, -Key, -Clause)
 
