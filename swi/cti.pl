@@ -2,15 +2,18 @@
           [ cti_modes/2,                % +File, -Modes
             cti_modes/3,                % +File, -Modes, +Options
             cti_check/2,                % +File, +Certificate
+            cti_check/3,                % +File, +Certificate, +Options
             cti_certificate/2,          % +File, -Facts
             cti_certificate/3,          % +File, -Facts, +Options
             cti_infer/3,                % +File, +Certificate, +Options
+            cti_certify/5,              % +Words, +File, +Certificate, -Message, +Options
             cti_lex/2,                  % +File, -Modes
             cti_loop/3,                 % +File, +Query, -Answer
             cti_loop/4,                 % +File, +Query, -Answer, +Options
             cti_session/2,              % +Edits, -Modes
             cti_why/2,                  % +File, -Notes
             cti_why/3,                  % +File, -Notes, +Options
+            cti_notes/3,                % +Path, +Message, -Notes
             cti_assertions/2,           % +File, -Assertions
             cti_lost/4                  % +File, +Modes, -Lost, +Options
           ]).
@@ -70,14 +73,22 @@ cti_certificate(File, Facts, Options) :-
     ).
 
 %!  cti_check(+File, +Certificate) is semidet.
+%!  cti_check(+File, +Certificate, +Options) is semidet.
 %
 %   True where the file Certificate has a valid certificate of the
-%   program in File.
+%   program in File. Options may have timeout(Seconds), as for cti_infer/3.
 
 cti_check(File, Certificate) :-
+    cti_check(File, Certificate, []).
+
+cti_check(File, Certificate, Options) :-
     absolute_path(File, Path),
     absolute_path(Certificate, CertificatePath),
-    run_cti([check, file(Path), file(CertificatePath)], Status, Facts, Message),
+    setup_call_cleanup(
+        tmp_file_stream(utf8, Answer, Out),
+        ( run_cti_to(Out, [check, file(Path), file(CertificatePath)], Options, Status, Message),
+          read_file_to_terms(Answer, Facts, [encoding(utf8)]) ),
+        ( close(Out), delete_file(Answer) )),
     (   Status == 0
     ->  Facts = [yes]
     ;   Status == 1
@@ -102,32 +113,80 @@ norm_words(_, []).
 %       Ends the program after so long. Then Status in the error is `timeout`.
 
 cti_infer(File, Certificate, Options) :-
+    norm_words(Options, Norm),
+    cti_certify([infer|Norm], File, Certificate, _, Options).
+
+%!  cti_certify(+Words, +File, +Certificate, -Message:string, +Options) is det.
+%
+%   Runs cti with Words, a command and its options, and File, and writes what
+%   it says on standard output to the file Certificate. Message is what it
+%   says on standard error. Options may have timeout(Seconds), as for
+%   cti_infer/3.
+
+cti_certify(Words, File, Certificate, Message, Options) :-
     absolute_path(File, Path),
     absolute_path(Certificate, CertificatePath),
-    option(timeout(Timeout), Options, infinite),
-    norm_words(Options, Norm),
-    append([infer|Norm], [file(Path)], Words),
-    program(Program),
-    tmp_file(cti, Messages),
-    setup_call_cleanup(
-        ( open(CertificatePath, write, Out), open(Messages, write, Err) ),
-        ( process_create(Program, Words, [stdout(stream(Out)), stderr(stream(Err)), process(Process)]),
-          ended(Process, Timeout, Status) ),
-        ( close(Out), close(Err) )),
+    append(Words, ['--', file(Path)], AllWords),
+    setup_call_cleanup(open(CertificatePath, write, Out, [encoding(utf8)]),
+                       run_cti_to(Out, AllWords, Options, Status, Message),
+                       close(Out)),
     (   Status == 0
     ->  true
-    ;   read_file_to_string(Messages, Message, []),
-        throw(error(cti_error(Status, Message), _))
+    ;   throw(error(cti_error(Status, Message), _))
     ).
 
-ended(Process, Timeout, Status) :-
-    process_wait(Process, Ended, [timeout(Timeout)]),
-    (   Ended = exit(Status)
+%   run_cti_to(+Out, +Words, +Options, -Status, -Message): standard output goes
+%   to the stream of a file. The program ends with this call, however that ends.
+
+run_cti_to(Out, Words, Options, Status, Message) :-
+    option(timeout(Timeout), Options, infinite),
+    program(Program),
+    setup_call_cleanup(
+        tmp_file_stream(utf8, Messages, Err),
+        ( setup_call_cleanup(
+              process_create(Program, Words, [stdout(stream(Out)), stderr(stream(Err)), process(Process)]),
+              ended(Process, Timeout, Status),
+              killed(Process, Status)),
+          read_file_to_string(Messages, Message, [encoding(utf8)]) ),
+        ( close(Err), delete_file(Messages) )).
+
+killed(Process, Status) :-
+    (   nonvar(Status)
     ->  true
-    ;   Ended == timeout
+    ;   process_kill(Process, 9),
+        process_wait(Process, _)
+    ).
+
+%   ended(+Process, +Timeout, -Status): process_wait/3 knows no time but 0 where
+%   there is fork(), so it is asked again and again.
+
+ended(Process, Timeout, Status) :-
+    number(Timeout),
+    !,
+    get_time(Now),
+    Deadline is Now + Timeout,
+    ended_before(Deadline, Process, 0.001, Status).
+ended(Process, _, Status) :-
+    process_wait(Process, Ended),
+    exit_status(Ended, Status).
+
+ended_before(Deadline, Process, Pause, Status) :-
+    process_wait(Process, Ended, [timeout(0)]),
+    get_time(Now),
+    (   Ended \== timeout
+    ->  exit_status(Ended, Status)
+    ;   Now >= Deadline
     ->  process_kill(Process, 9),
         process_wait(Process, _),
         Status = timeout
+    ;   sleep(Pause),
+        Longer is min(0.05, 1.5 * Pause),
+        ended_before(Deadline, Process, Longer, Status)
+    ).
+
+exit_status(Ended, Status) :-
+    (   Ended = exit(Status)
+    ->  true
     ;   Status = Ended
     ).
 
@@ -146,10 +205,18 @@ cti_why(File, Notes, Options) :-
     norm_words(Options, Words),
     run_cti([infer, file(Path)|Words], Status, _, Message),
     (   Status == 0
-    ->  split_string(Message, "\n", "", Lines),
-        convlist(note_in(Path), Lines, Notes)
+    ->  cti_notes(Path, Message, Notes)
     ;   throw(error(cti_error(Status, Message), _))
     ).
+
+%!  cti_notes(+Path, +Message, -Notes) is det.
+%
+%   Notes are those of the file Path in Message, what cti said on standard
+%   error, as for cti_why/2.
+
+cti_notes(Path, Message, Notes) :-
+    split_string(Message, "\n", "", Lines),
+    convlist(note_in(Path), Lines, Notes).
 
 note_in(Path, Text, note(Line, Column, Sentence)) :-
     string_concat(Path, ":", Start),
@@ -267,7 +334,7 @@ depth_words(_, []).
 
 cti_session(Edits, Modes) :-
     must_be(list, Edits),
-    tmp_file_stream(text, Path, Stream),
+    tmp_file_stream(utf8, Path, Stream),
     call_cleanup(
         ( call_cleanup(maplist(write_edit(Stream), Edits), close(Stream)),
           run_cti([session, '--', file(Path)], Status, Facts, Message) ),
@@ -309,7 +376,7 @@ no_program(Name, Why) :-
 run_cti(Words, Status, Facts, Message) :-
     program(Program),
     process_create(Program, Words,
-                   [stdout(pipe(Out)), stderr(pipe(Err)), process(Process)]),
+                   [stdout(pipe(Out, [encoding(utf8)])), stderr(pipe(Err, [encoding(utf8)])), process(Process)]),
     call_cleanup(read_facts(Out, Facts), close(Out)),
     call_cleanup(read_string(Err, _, Message), close(Err)),
     process_wait(Process, exit(Status)).

@@ -2,7 +2,9 @@
           [ cti_file_modes/3,           % +File, -Modes, -Assumptions
             cti_file_modes/4,           % +File, -Modes, -Assumptions, +Options
             cti_file_answer/3,          % +File, -Answer, +Options
+            cti_file_ask/5,             % +File, +Query, -Reply, -Answer, +Options
             print_answer/1,             % +Answer
+            print_reply/2,              % +Reply, +Answer
             assumption_text/2           % +Doubt, -Text
           ]).
 
@@ -19,13 +21,17 @@ module is not proved; what cti says of the pure program is.
 :- use_module(library(lists)).
 :- use_module(library(option)).
 :- use_module(library(ordsets)).
-:- use_module(library(pairs)).
-:- use_module(library(readutil)).
-:- use_module(cti).
+:- use_module(library(yall)).
+:- use_module(answer_text).
+:- use_module(analyses).
+:- use_module(asking).
 :- use_module(components).
+:- use_module(patterns).
+:- use_module(places).
 :- use_module(pure_program).
-:- use_module(real_builtins, [is_protected/1, is_read_library/1]).
+:- use_module(real_builtins, [is_protected/1]).
 :- use_module(real_source).
+:- use_module(reasons).
 
 %!  cti_file_modes(+File, -Modes, -Assumptions) is det.
 %!  cti_file_modes(+File, -Modes, -Assumptions, +Options) is det.
@@ -42,16 +48,7 @@ module is not proved; what cti says of the pure program is.
 %   and the modes of the predicates Dependent do so through it. Predicate is
 %   `file` where a whole file relies on it.
 %
-%   Options:
-%
-%     - norm(+Norm)
-%       Passed to `cti infer --norm`.
-%     - timeout(+Seconds)
-%       For each call of cti; 12 by default.
-%     - check(+Boolean)
-%       If `true` (default), the certificate is checked by `cti check`.
-%     - keep(+Directory)
-%       Writes the pure program and its certificate there.
+%   Options are those of cti_file_answer/3.
 %
 %   @throws error(cti_error(Status, Message), _) as cti_modes/2.
 
@@ -60,185 +57,286 @@ cti_file_modes(File, Modes, Assumptions) :-
 
 cti_file_modes(File, Modes, Assumptions, Options) :-
     cti_file_answer(File, Answer, Options),
-    findall(Predicate-Sets, member(predicate(Predicate, _, Sets, _, _, _), Answer.predicates), Modes),
-    findall(assumed(Line, Predicate, Doubt, Dependents),
-            ( member(assumption(Number, Line, Predicate, Doubt), Answer.assumptions),
-              findall(Dependent,
-                      ( member(predicate(Dependent, _, _, _, Numbers, _), Answer.predicates),
-                        memberchk(Number, Numbers) ),
-                      Dependents) ),
+    findall(Name-Sets,
+            ( member(Predicate, Answer.predicates),
+              _{name:Name, modes:ModesOf} :< Predicate,
+              ground_sets(ModesOf, Sets) ),
+            Modes),
+    findall(assumed(Line, PI, Doubt, Dependents),
+            ( member(Assumption, Answer.assumptions),
+              _{number:Number, line:Line, predicate:PI, doubt:Doubt} :< Assumption,
+              dependents(Number, Answer.predicates, Dependents) ),
             Assumptions).
+
+dependents(Number, Predicates, Dependents) :-
+    findall(Name,
+            ( member(Predicate, Predicates),
+              _{name:Name, assumptions:Numbers} :< Predicate,
+              memberchk(Number, Numbers) ),
+            Dependents).
+
+%   A list whose length has to be known is known where it is ground.
+
+ground_sets(Modes, Sets) :-
+    findall(mode{arguments:Set, by:ground}, member(mode{arguments:Set, by:_}, Modes), Ground),
+    minimal_modes(Ground, Minimal),
+    findall(Set, member(mode{arguments:Set, by:_}, Minimal), Sets).
 
 %!  cti_file_answer(+File, -Answer:dict, +Options) is det.
 %
-%   Answer has
+%   Answer is
 %
-%     - file: its path
-%     - predicates: predicate(Predicate, Line, Sets, Reason, Numbers, Kind) for
-%       each of the file. Reason says why there is no mode, and is `none`
-%       where there is one. Numbers are of the assumptions that it relies on.
-%       Kind is `recursive`, `calls` where it calls a recursive predicate, or
-%       `plain`.
-%     - assumptions: assumption(Number, Line, Predicate, Doubt)
-%     - facts: the number of facts of the certificate
-%     - checked: `true` where `cti check` accepted it.
+%       answer{ file, files, predicates, assumptions, certificates, unread }
+%
+%   with the path of File, all paths that were asked for, the predicates of
+%   the file in the order of its lines, what is assumed, and a list of
+%
+%       certificate{kind, facts, checked}
+%
+%   one for each analysis that was done, with the number of its facts, and
+%   whether `cti check` accepted it. A predicate is
+%
+%       predicate{ name, file, line, column, exported, modes, reason, reason_text,
+%                  reason_places, assumptions, recursion, found_by, not_shown }
+%
+%   where modes is a list of mode{arguments, by}: every query ends in which
+%   the arguments are `ground`, or known by `length` (docs/real-files.md). No
+%   mode of the list follows from another one. reason is why there is none,
+%   or `none`, reason_text the same as a string, and reason_places a list of
+%   place(Path, Line, Column, Text). assumptions has the numbers of those
+%   that it relies on. recursion is `recursive`, `calls` if it calls a
+%   recursive predicate, or `plain`. found_by has the analyses that found
+%   the modes. not_shown has place(Path, Line, Column, Text) for patterns that
+%   a comment of PlDoc or a call in the file wants, and no mode meets, where
+%   there are modes. An assumption is
+%
+%       assumption{number, file, line, predicate, doubt, text}
+%
+%   and unread is a list of place(Path, Line, Column, Text), with the
+%   reader's message for each clause that could not be read.
+%
+%   Options:
+%
+%     - norm(+Norm)
+%       Only modes by the size of terms (`term`), or of lists (`list`).
+%     - timeout(+Seconds)
+%       For all that is asked of cti; 12 by default.
+%     - check(+Boolean)
+%       If `true` (default), certificates are checked by `cti check`.
+%     - keep(+Directory)
+%       Writes the pure program and its certificates there.
 
 cti_file_answer(File, Answer, Options) :-
-    read_sources([File], Project),
+    with_analysis(File, Known, answer(Known, Answer), Options).
+
+%!  cti_file_ask(+File, +Query, -Reply:dict, -Answer:dict, +Options) is det.
+%
+%   Query is text as `app(b,f,f)`, with `b` for a ground argument, `l` for a
+%   list whose length is known, and `f` for any term. Reply is
+%
+%       reply{query, answer, text, places, assumptions}
+%
+%   answer is `yes` if each such query ends, where the assumptions hold; `no` if
+%   one of them does not, unless an error ends it; and else `unknown`. text says
+%   why, and places is a list of place(Path, Line, Column, Text). Answer and the
+%   options are as of cti_file_answer/3.
+%
+%   @throws error(no_predicate(Query), _) where the file has no such predicate.
+
+cti_file_ask(File, Query, Reply, Answer, Options) :-
+    with_analysis(File, Known, ( answer(Known, Answer), asked(Query, Known, Answer, Reply) ), Options).
+
+asked(Query, Known, Answer, Reply) :-
+    (   query_pattern(Query, Module, PI, Pattern)
+    ->  true
+    ;   throw(error(no_pattern(Query), _))
+    ),
+    (   member(Source, Known.project.sources),
+        is_own_key(Source, Module:PI),
+        shown(Module:PI, Source.module, Name),
+        member(Predicate, Answer.predicates),
+        Predicate.name == Name
+    ->  true
+    ;   throw(error(no_predicate(Query), _))
+    ),
+    reply(Module:PI, Pattern, Known.put(source, Source), Predicate, Reply0),
+    Reply = Reply0.put(_{query:Query, assumptions:Predicate.assumptions}).
+
+%   A query without a module is of the first file that has such a predicate.
+
+is_own_key(Source, Module:PI) :-
+    (   var(Module)
+    ->  Module = Source.module
+    ;   true
+    ),
+    is_defined(Source, Module:PI).
+
+%   with_analysis(+File, -Known, :Goal, +Options): Goal is called with all that
+%   is known of the file, while the files of the work are there.
+
+:- meta_predicate with_analysis(+, -, 0, +).
+
+with_analysis(File, Known, Goal, Options) :-
+    forget_places,
+    read_sources(File, Project),
     covering_program(Project, Program),
-    work_files(Project.path, PureFile, CertificateFile, Options),
+    setup_call_cleanup(
+        work_files(Project.path, Prefix, Options),
+        ( known(Project, Program, Prefix, Known, Options),
+          once(Goal) ),
+        forget_work_files(Prefix, Options)).
+
+known(Project, Program, Prefix, Known, Options) :-
+    Project.sources = [Source|_],
+    file_name_extension(Prefix, 'pure.pl', PureFile),
     write_program(Program, PureFile, Names),
-    option(timeout(Timeout), Options, 12),
-    infer_options(Options, Timeout, InferOptions),
-    cti_infer(PureFile, CertificateFile, InferOptions),
-    checked(PureFile, CertificateFile, Checked, Options),
-    read_file_to_terms(CertificateFile, Facts, []),
     program_graph(Program, Graph),
     components(Graph, Components),
-    answer(Project, Program, Names, Facts, Graph, Components, Predicates, Assumptions),
-    length(Facts, FactCount),
-    Answer = answer{file:Project.path, predicates:Predicates, assumptions:Assumptions,
-                    facts:FactCount, checked:Checked}.
+    recursion(Components, Graph, Kinds),
+    analysed(PureFile, Prefix, Names, Kinds, Found, Options),
+    Known0 = known{project:Project, source:Source, program:Program, pure_file:PureFile, names:Names, graph:Graph, components:Components,
+                   kinds:Kinds, found:Found},
+    reasoning(Known0, Reasoning),
+    Known1 = Known0.put(reasoning, Reasoning),
+    lacking_calls(Known1, Lacking),
+    Known = Known1.put(lacking, Lacking).
 
-infer_options(Options, Timeout, [timeout(Timeout)|More]) :-
-    (   option(norm(Norm), Options)
-    ->  More = [norm(Norm)]
-    ;   More = []
-    ).
+answer(Known, Answer) :-
+    _{project:Project, found:Found} :< Known,
+    answer_predicates(Known, Predicates, Assumptions),
+    findall(certificate{kind:Analysis, facts:Count, checked:Checked},
+            ( member(Result, Found.results),
+              _{analysis:Analysis, facts:Facts, checked:Checked} :< Result,
+              length(Facts, Count) ),
+            Certificates),
+    findall(Place, ( member(Source, Project.sources), member(Place, Source.unread) ), Unread),
+    Answer = answer{file:Project.path, files:Project.files, predicates:Predicates, assumptions:Assumptions,
+                    certificates:Certificates, unread:Unread}.
 
-work_files(Path, PureFile, CertificateFile, Options) :-
+%   work_files(+Path, -Prefix, +Options): what the names of the files for cti
+%   begin with.
+
+work_files(Path, Prefix, Options) :-
     (   option(keep(Directory), Options)
     ->  file_base_name(Path, Base),
         file_name_extension(Stem, _, Base),
         atomic_list_concat([Directory, /, Stem], Prefix)
     ;   tmp_file(cti_file, Prefix)
-    ),
-    file_name_extension(Prefix, 'pure.pl', PureFile),
-    file_name_extension(Prefix, cert, CertificateFile).
+    ).
 
-checked(PureFile, CertificateFile, Checked, Options) :-
-    (   option(check(false), Options)
-    ->  Checked = false
-    ;   cti_check(PureFile, CertificateFile)
-    ->  Checked = true
-    ;   throw(error(cti_error(not_valid, "the certificate is not valid"), _))
+forget_work_files(Prefix, Options) :-
+    (   option(keep(_), Options)
+    ->  true
+    ;   atom_concat(Prefix, '.*', Pattern),
+        expand_file_name(Pattern, Files),
+        forall(( member(File, Files), exists_file(File) ), delete_file(File))
     ).
 
 
 %   What is said of the file.
 
-answer(Project, Program, Names, Facts, Graph, Components, Predicates, Assumptions) :-
-    Project.sources = [Source|_],
+answer_predicates(Known, Predicates, Assumptions) :-
+    Project = Known.project,
     own_keys(Project, Own),
-    modes_by_key(Names, Facts, Modes),
-    first_lines(Program, Lines),
-    notes_below(Program, Components, Graph, Below),
+    notes_below(Known.program, Known.components, Known.graph, Below),
     findall(Note,
-            (   member(Key, Own), get_assoc(Key, Below, Notes), member(Note, Notes)
-            ;   member(Root, Project.sources), member(doubt(Line, Doubt), Root.doubts), Note = place(file, Line, Doubt)
+            (   member(Key-_, Own), get_assoc(Key, Below, Notes), member(Note, Notes)
+            ;   member(Source, Project.sources), member(doubt(Line, Doubt), Source.doubts), Note = place(file, Line, Doubt)
             ),
             Notes0),
     sort(Notes0, Notes),
-    numbered_notes(Notes, 1, Assumptions, Source),
-    recursion(Components, Graph, Kinds),
-    given_up(Facts, Names, GivenUp),
-    findall(Key-Clauses, member(predicate(Key, Clauses, _), Program), ClausesOf0),
-    list_to_assoc(ClausesOf0, ClausesOf),
-    findall(Key-Component, ( member(Component, Components), member(Key, Component) ), ComponentOf0),
-    list_to_assoc(ComponentOf0, ComponentOf),
-    Known = known{program:Program, clauses:ClausesOf, modes:Modes, given_up:GivenUp, module:Source.module,
-                  components:ComponentOf},
-    findall(predicate(Shown, Line, Sets, Reason, Numbers, Kind),
-            ( member(Key, Own),
-              shown(Key, Source.module, Shown),
-              get_assoc(Key, Lines, Line),
-              get_assoc(Key, Modes, Sets),
-              get_assoc(Key, Kinds, Kind),
-              get_assoc(Key, Below, Relied),
-              numbers_of(Relied, Notes, Numbers),
-              reason(Sets, Key, Known, Reason) ),
+    numbered_notes(Notes, Project, Numbers, Assumptions),
+    findall(Predicate,
+            ( member(Key-Path, Own),
+              own_predicate(Key, Path, Known, Below, Numbers, Predicate) ),
             Predicates0),
-    predsort(by_line, Predicates0, Predicates).
+    sorted_by_place(Predicates0, Predicates).
 
-by_line(Order, A, B) :-
-    A = predicate(NameA, LineA, _, _, _, _),
-    B = predicate(NameB, LineB, _, _, _, _),
-    compare(Order, LineA-NameA, LineB-NameB).
+own_predicate(Key, Path, Known, Below, Numbers, Predicate) :-
+    member(Source, Known.project.sources),
+    Source.path == Path,
+    !,
+    Key = _:PI,
+    shown(Key, Source.module, Name),
+    key_place(Key, Source, Known.project.path, File, Line, Column),
+    (   Key = Source.module:_, memberchk(PI, Source.exports)
+    ->  Exported = true
+    ;   Exported = false
+    ),
+    get_assoc(Key, Known.found.modes, Found),
+    get_assoc(Key, Known.kinds, Recursion),
+    get_assoc(Key, Below, Relied),
+    findall(Number, ( member(Note, Relied), get_assoc(Note, Numbers, Number) ), Numbers0),
+    sort(Numbers0, Assumptions),
+    findall(mode{arguments:Arguments, by:By}, member(found(Arguments, By, _), Found), Modes),
+    findall(Analysis, ( member(found(_, _, Analyses), Found), member(Analysis, Analyses) ), FoundBy0),
+    sort(FoundBy0, FoundBy),
+    (   Modes == []
+    ->  reason(Key, Known.reasoning, Reason, Text, Places)
+    ;   Reason = none, Text = "", Places = []
+    ),
+    not_shown(Key, Modes, Known.put(source, Source), NotShown),
+    Predicate = predicate{name:Name, file:File, line:Line, column:Column, exported:Exported, modes:Modes,
+                          reason:Reason, reason_text:Text, reason_places:Places, assumptions:Assumptions,
+                          recursion:Recursion, found_by:FoundBy, not_shown:NotShown}.
+
+sorted_by_place(Predicates, Sorted) :-
+    findall(key(File, Line, Name)-Predicate,
+            ( member(Predicate, Predicates),
+              _{file:File, line:Line, name:Name} :< Predicate ),
+            Pairs),
+    keysort(Pairs, SortedPairs),
+    findall(Predicate, member(_-Predicate, SortedPairs), Sorted).
 
 %   Clauses of predicates that no file can define are refused when it is
 %   loaded.
 
+%   own_keys(+Project, -Own): Key-Path, where Path is that of the first source
+%   that has clauses of Key.
+
 own_keys(Project, Own) :-
     maplist(keys_of_source, Project.sources, Lists),
-    append(Lists, All),
-    sort(All, Own).
+    append(Lists, All0),
+    sort(1, @<, All0, Own).
 
-keys_of_source(Source, Keys) :-
+keys_of_source(Source, Pairs) :-
     assoc_to_keys(Source.clauses, Keys0),
     append(Keys0, Source.dynamic, Keys1),
-    exclude(refused(Source), Keys1, Keys).
+    exclude(refused(Source), Keys1, Keys),
+    findall(Key-Source.path, member(Key, Keys), Pairs).
 
 refused(Source, Module:Name/Arity) :-
     functor(Goal, Name, Arity),
     is_protected(Goal),
     \+ memberchk(Module:Name/Arity, Source.redefined).
 
-shown(Module:PI, Module, PI) :- !.
-shown(Key, _, Key).
+%   key_place(+Key, +Source, +First, -File, -Line, -Column): its first clause.
 
-%   The certificate's predicates by key. An argument that stands for many is
-%   all of them.
-
-modes_by_key(Names, Facts, Modes) :-
-    findall(Predicate-Sets, member(terminates(Predicate, Sets), Facts), Pairs),
-    list_to_assoc(Pairs, ByName),
-    findall(Key-Sets,
-            ( member(Key-Predicate, Names),
-              (   get_assoc(Predicate, ByName, Sets0)
-              ->  true
-              ;   Sets0 = [[]]              % a predicate that nothing calls, and without clauses
-              ),
-              key_sets(Key, Sets0, Sets) ),
-            ByKey),
-    list_to_assoc(ByKey, Modes).
-
-key_sets(_:_/Arity, Sets0, Sets) :-
-    Arity > 12,
-    !,
-    findall(Set, ( member(Set0, Sets0), all_arguments(Set0, Arity, Set) ), Sets).
-key_sets(_, Sets, Sets).
-
-all_arguments(Set0, Arity, Set) :-
-    (   append(First, [12], Set0)
-    ->  numlist(12, Arity, Others),
-        append(First, Others, Set)
-    ;   Set = Set0
-    ).
-
-first_lines(Program, Lines) :-
-    findall(Key-Line, ( member(predicate(Key, Clauses, _), Program), first_line(Clauses, Line) ), Pairs),
-    list_to_assoc(Pairs, Lines).
-
-first_line([], 0).
-first_line([clause(_, _, Line)|_], Line).
+key_place(Key, Source, First, File, Line, Column) :-
+    (   source_clauses(Source, Key, [clause(Place, _, _)|_])
+    ->  true
+    ;   Source.path == First
+    ->  Place = 0
+    ;   Place = Source.path:0
+    ),
+    place_of_line(Place, First, File, Line, Column).
 
 
-%   notes_below(+Program, +Components, +Graph, -Below): the notes that
-%   each key relies on, as place(Key, Line, Doubt). Components come callees
-%   first. Doubts of the whole file are everybody's.
+%   notes_below(+Program, +Components, +Graph, -Below): the notes that each key
+%   relies on, as place(Key, Line, Doubt). Components come callees first.
 
 notes_below(Program, Components, Graph, Below) :-
     findall(Key-Places,
             ( member(predicate(Key, _, Notes), Program),
-              findall(Place, ( member(Note, Notes), note_place(Note, Key, Place) ), Places0),
+              findall(Place, ( member(Note, Notes), place_of_note(Note, Key, Place) ), Places0),
               sort(Places0, Places) ),
             Pairs),
     list_to_assoc(Pairs, Direct),
     empty_assoc(Empty),
     foldl(component_notes(Direct, Graph), Components, Empty, Below).
 
-note_place(note(Line, file(Doubt)), _, place(file, Line, Doubt)) :- !.
-note_place(note(Line, Doubt), Key, place(Named, Line, Doubt)) :-
+place_of_note(note(Line, file(Doubt)), _, place(file, Line, Doubt)) :- !.
+place_of_note(note(Line, Doubt), Key, place(Named, Line, Doubt)) :-
     named_key(Key, Named).
 
 component_notes(Direct, Graph, Component, Below0, Below) :-
@@ -253,34 +351,37 @@ component_notes(Direct, Graph, Component, Below0, Below) :-
     ord_union(Lists, All),
     with_value(Component, All, Below0, Below).
 
-named_key(part(Key, _), Named) :-
-    !,
-    named_key(Key, Named).
-named_key(special(Key, _), Named) :-
-    !,
-    named_key(Key, Named).
-named_key(prelude(PI), system:PI) :- !.
-named_key(Key, Key).
+%   numbered_notes(+Notes, +Project, -Numbers, -Assumptions): in the order of
+%   lines, those of the files that were asked for first. Numbers has each note's
+%   number.
 
-numbered_notes([], _, [], _).
-numbered_notes([place(Key, Line, Doubt)|Notes], Number, [assumption(Number, Line, Shown, Doubt)|Assumptions], Source) :-
-    shown(Key, Source.module, Shown),
+numbered_notes(Notes, Project, Numbers, Assumptions) :-
+    findall(order(Elsewhere, File, Line)-Note,
+            ( member(Note, Notes),
+              Note = place(_, Place, _),
+              place_of_line(Place, Project.path, File, Line, _),
+              (   nth1(Elsewhere, Project.files, File)
+              ->  true
+              ;   Elsewhere = elsewhere
+              ) ),
+            Pairs0),
+    keysort(Pairs0, Pairs),
+    numbered_notes(Pairs, 1, Project, NumberPairs, Assumptions),
+    list_to_assoc(NumberPairs, Numbers).
+
+numbered_notes([], _, _, [], []).
+numbered_notes([order(_, File, Line)-Note|Pairs], Number, Project, [Note-Number|Numbers], [Assumption|Assumptions]) :-
+    Note = place(Key, _, Doubt),
+    (   member(Source, Project.sources),
+        is_defined(Source, Key)
+    ->  shown(Key, Source.module, Shown)
+    ;   Shown = Key
+    ),
+    assumption_text(Doubt, Text),
+    Assumption = assumption{number:Number, file:File, line:Line, predicate:Shown, doubt:Doubt, text:Text},
     Next is Number + 1,
-    numbered_notes(Notes, Next, Assumptions, Source).
+    numbered_notes(Pairs, Next, Project, Numbers, Assumptions).
 
-numbers_of(Relied, Notes, Numbers) :-
-    numbers_of(Notes, Relied, 1, Numbers).
-
-%   Both lists are ordered, and the second has members of the first.
-
-numbers_of(_, [], _, []) :- !.
-numbers_of([Note|Notes], [Relied|More], Number, Numbers) :-
-    Next is Number + 1,
-    (   Note == Relied
-    ->  Numbers = [Number|Others],
-        numbers_of(Notes, More, Next, Others)
-    ;   numbers_of(Notes, [Relied|More], Next, Numbers)
-    ).
 
 %   Which predicates are recursive, or call one that is.
 
@@ -304,249 +405,3 @@ with_value([], _, Assoc, Assoc).
 with_value([Key|Keys], Value, Assoc0, Assoc) :-
     put_assoc(Key, Assoc0, Value, Assoc1),
     with_value(Keys, Value, Assoc1, Assoc).
-
-
-%   Why a predicate has no mode.
-%
-%     - none
-%       it has one
-%     - nothing_falls(Calls)
-%       no weighted sum of sizes gets smaller at all the Calls, each
-%       call(Line, Predicate)
-%     - large(Count): its component has too many arguments for the search
-%     - blown: the search was given up
-%     - calls(Line, Predicate): it calls one without modes
-%     - needs(Calls): each call(Line, Predicate, Sets) is of a predicate that
-%       needs ground arguments, and not all of them are sure to have these
-%     - unknown
-
-reason([_|_], _, _, none) :- !.
-reason([], Key, Known, Reason) :-
-    get_assoc(Key, Known.components, Component),
-    (   member(Member, Component),
-        get_assoc(Member, Known.given_up, Given)
-    ->  given_reason(Given, Known, Reason)
-    ;   with_parts(Component, Known, Inside),
-        (   outside_call(Inside, Known, Line, Callee, [])
-        ->  shown_callee(Callee, Known, Shown),
-            Reason = calls(Line, Shown)
-        ;   needing_calls(Inside, Known, Calls),
-            Calls \== []
-        ->  Reason = needs(Calls)
-        ;   Reason = unknown
-        )
-    ).
-
-needing_calls(Inside, Known, Calls) :-
-    findall(call(Line, Shown, Sets),
-            ( outside_call(Inside, Known, Line, Callee, Sets),
-              \+ memberchk([], Sets),
-              shown_callee(Callee, Known, Shown) ),
-            Calls0),
-    sort(Calls0, Calls).
-
-%   with_parts(+Keys, +Known, -Inside): the keys, and the parts of clauses that
-%   they call, which are not the reader's.
-
-with_parts(Keys, Known, Inside) :-
-    findall(Part,
-            ( outside_call(Keys, Known, _, Part, _), Part = part(_, _) ),
-            Parts0),
-    sort(Parts0, Parts),
-    (   Parts == []
-    ->  Inside = Keys
-    ;   append(Keys, Parts, More),
-        with_parts(More, Known, Inside)
-    ).
-
-shown_callee(Key, Known, Shown) :-
-    named_key(Key, Named),
-    shown(Named, Known.module, Shown).
-
-outside_call(Component, Known, Line, Callee, Sets) :-
-    member(Key, Component),
-    get_assoc(Key, Known.clauses, Clauses),
-    member(clause(_, Goals, Line), Clauses),
-    member(call(Callee, _), Goals),
-    Callee \== fail,
-    \+ memberchk(Callee, Component),
-    get_assoc(Callee, Known.modes, Sets).
-
-%   given_up(+Facts, +Names, -GivenUp): by key, what cti says of a component
-%   that it gave up, under the component's first predicate.
-
-given_up(Facts, Names, GivenUp) :-
-    transposed(Names, ByName),
-    findall(Key-Given,
-            ( nth_fact(Facts, Rest, Fact),
-              given(Fact, Rest, Predicate, Given),
-              get_assoc(Predicate, ByName, Key) ),
-            Pairs0),
-    keysort(Pairs0, Pairs1),
-    first_by_key(Pairs1, Pairs),
-    list_to_assoc(Pairs, GivenUp).
-
-transposed(Names, ByName) :-
-    findall(Name-Key, member(Key-Name, Names), Pairs0),
-    sort(1, @<, Pairs0, Pairs),
-    list_to_assoc(Pairs, ByName).
-
-first_by_key([], []).
-first_by_key([K-V|Pairs], [K-V|Firsts]) :-
-    exclude({K}/[K1-_]>>(K1 == K), Pairs, Others),
-    first_by_key(Others, Firsts).
-
-nth_fact([Fact|Facts], Facts, Fact).
-nth_fact([_|Facts], Rest, Fact) :-
-    nth_fact(Facts, Rest, Fact).
-
-given(none(Predicate, Count), Rest, Predicate, points(Calls)) :-
-    first_points(Count, Rest, Calls).
-given(large(Predicate, Count), _, Predicate, large(Count)).
-given(blown(Predicate, _), _, Predicate, blown).
-
-first_points(0, _, []) :- !.
-first_points(Count, [Fact|Facts], Calls) :-
-    (   Fact = point(Clause, Call, _, _)
-    ->  Next is Count - 1,
-        Calls = [Clause-Call|More],
-        first_points(Next, Facts, More)
-    ;   first_points(Count, Facts, Calls)
-    ).
-first_points(_, [], []).
-
-given_reason(large(Count), _, large(Count)).
-given_reason(blown, _, blown).
-given_reason(points(Pairs), Known, nothing_falls(Calls)) :-
-    findall(call(Line, Shown),
-            ( member(ClauseNumber-CallNumber, Pairs),
-              clause_number(Known.program, ClauseNumber, clause(_, Goals, Line)),
-              nth1(CallNumber, Goals, call(Callee, _)),
-              shown_callee(Callee, Known, Shown) ),
-            Calls0),
-    sort(Calls0, Calls).
-
-clause_number([predicate(_, Clauses, _)|Program], Number, Clause) :-
-    length(Clauses, Count),
-    (   Number =< Count
-    ->  nth1(Number, Clauses, Clause)
-    ;   Next is Number - Count,
-        clause_number(Program, Next, Clause)
-    ).
-
-
-%!  print_answer(+Answer:dict) is det.
-%
-%   Prints the answer for people, as the script cti-file does.
-
-print_answer(Answer) :-
-    forall(member(Predicate, Answer.predicates), print_predicate(Predicate)),
-    (   Answer.assumptions == []
-    ->  true
-    ;   format("~nassumed:~n"),
-        file_base_name(Answer.file, Base),
-        forall(member(Assumption, Answer.assumptions), print_assumption(Assumption, Base))
-    ),
-    format("~nAlways assumed: no cyclic terms, and no attributed variables in the query. Not proved: that the pure program~n\
-covers the file. See docs/real-files.md.~n").
-
-print_predicate(predicate(Predicate, Line, Sets, Reason, Numbers, _)) :-
-    format("~w~t~14|~q~t~48|", [Line, Predicate]),
-    (   Sets == []
-    ->  reason_text(Reason, Text),
-        format(" no mode: ~w", [Text])
-    ;   format(" ~w", [Sets])
-    ),
-    print_numbers(Numbers, Sets),
-    nl.
-
-print_numbers(Numbers, Sets) :-
-    (   ( Numbers == [] ; Sets == [] )
-    ->  true
-    ;   length(Numbers, Count),
-        Count > 6
-    ->  length(First, 5),
-        append(First, _, Numbers),
-        atomic_list_concat(First, ', ', Text),
-        Others is Count - 5,
-        format(" if ~w and ~d more", [Text, Others])
-    ;   atomic_list_concat(Numbers, ', ', Text),
-        format(" if ~w", [Text])
-    ).
-
-print_assumption(assumption(Number, Line, Predicate, Doubt), Base) :-
-    assumption_text(Doubt, Text),
-    place_text(Line, Predicate, Base, Place),
-    (   Predicate == file
-    ->  format("~t~d~4|  ~w: ~s~n", [Number, Place, Text])
-    ;   format("~t~d~4|  ~w: ~q: ~s~n", [Number, Place, Predicate, Text])
-    ).
-
-place_text(Line, Predicate, Base, Place) :-
-    (   Line = _:_
-    ->  Place = Line
-    ;   Predicate = Module:_/_,
-        is_library_module(Module)
-    ->  format(atom(Place), "library ~w:~w", [Module, Line])
-    ;   Place = Base:Line
-    ).
-
-is_library_module(Module) :-
-    is_read_library(Module).
-
-%   reason_text(+Reason, -Text)
-
-reason_text(nothing_falls(Calls), Text) :-
-    findall(One, ( member(call(Line, Predicate), Calls), format(atom(One), "~q in line ~w", [Predicate, Line]) ), Texts),
-    atomic_list_concat(Texts, ', ', Where),
-    (   Calls = [_]
-    ->  format(string(Text), "no weighted sum of its arguments' sizes gets smaller at the call of ~w", [Where])
-    ;   format(string(Text), "no single weighted sum of its arguments' sizes gets smaller at all of these calls: ~w", [Where])
-    ).
-reason_text(large(Count), Text) :-
-    format(string(Text), "the predicates of its recursion have ~d arguments, more than 12: the search was cut short", [Count]).
-reason_text(blown, "the search was given up: its numbers or lists grew too large").
-reason_text(calls(Line, Predicate), Text) :-
-    format(string(Text), "line ~w calls ~q, which has none", [Line, Predicate]).
-reason_text(needs(Calls), Text) :-
-    findall(One,
-            ( member(call(Line, Predicate, Sets), Calls), format(atom(One), "~q ~w in line ~w", [Predicate, Sets, Line]) ),
-            Texts),
-    atomic_list_concat(Texts, ', ', All),
-    format(string(Text), "what these calls need ground is not sure to be: ~w", [All]).
-reason_text(unknown, "no ground arguments make sure that its calls end").
-
-%!  assumption_text(+Doubt, -Text:string) is det.
-
-assumption_text(goal, "the goal that it calls is not known: it ends").
-assumption_text(external(PI), Text) :-
-    format(string(Text), "~q is not read: it ends", [PI]).
-assumption_text(risk(place, PI), Text) :-
-    format(string(Text), "~q changes a term in place: no term that is known by its size grows", [PI]).
-assumption_text(risk(waits, PI), Text) :-
-    format(string(Text), "~q leaves a goal waiting: it ends when it runs", [PI]).
-assumption_text(risk(imports, PI), Text) :-
-    format(string(Text), "~q imports from another module: nothing that the file calls", [PI]).
-assumption_text(risk(runs, PI), Text) :-
-    format(string(Text), "~q may run goals that are not known, or wait: it ends", [PI]).
-assumption_text(bound, "the upper bound of between/3 is not inf").
-assumption_text(text, "the text that is formatted is not known: it has no ~@").
-assumption_text(letter, "letters of format/2 that the file defines, if the text has them, run goals that end").
-assumption_text(function, "the file's own function in arithmetic ends").
-assumption_text(rewritten, "the file rewrites this when it is loaded: what comes of it ends as this does").
-assumption_text(multifile, "other files may add clauses: these end").
-assumption_text(conditional, "it depends on :- if: the clauses read here are those loaded").
-assumption_text(tabled, "tabled with moded arguments or options: tabling does not call it more generally").
-assumption_text(transparent, "it runs in the module of its caller: what it calls there ends, as if it were here").
-assumption_text(imported, "it is also imported by its name: the clauses read here are those that are called").
-assumption_text(adds, "clauses that the file adds to it, and that are not known, are facts").
-assumption_text(unread, "this clause could not be read: nothing depends on it").
-assumption_text(flags, "a flag for the reading of what is in quotes may change here: it is read as if it did not").
-assumption_text(chr, "rules of CHR are not read: they end").
-assumption_text(dialect(Dialect), Text) :-
-    format(string(Text), "the file is for ~w: it is as for SWI-Prolog", [Dialect]).
-assumption_text(include(Spec), Text) :-
-    format(string(Text), "the included file ~q was not found: it adds no clauses", [Spec]).
-assumption_text(inherits, "what is imported here has no name that the file calls").
-assumption_text(loads(_), "what is loaded is not known: it adds no clauses").
-assumption_text(asserts, "a clause that it adds is not known").

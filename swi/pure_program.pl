@@ -1,6 +1,7 @@
 :- module(pure_program,
           [ covering_program/2,         % +Source, -Program
             write_program/3,            % +Program, +File, -Names
+            pure_query/4,               % +Names, +Key, +Args, -Text
             program_graph/2             % +Program, -Graph
           ]).
 
@@ -298,6 +299,18 @@ write_program(Program, File, Names) :-
                        forall(member(predicate(Key, Clauses, _), Program),
                               forall(member(Clause, Clauses), write_clause(Out, ByKey, Key, Clause))),
                        close(Out)).
+
+%!  pure_query(+Names, +Key, +Args, -Text:string) is det.
+%
+%   Text is the query of Key with the arguments Args, as a goal of the pure
+%   program.
+
+pure_query(Names, Key, Args, Text) :-
+    list_to_assoc(Names, ByKey),
+    maplist(pure_term, Args, Pure),
+    copy_term(Pure, Numbered),
+    numbervars(Numbered, 0, _, [singletons(true)]),
+    with_output_to(string(Text), write_atom(current_output, ByKey, Key, Numbered)).
 
 named(predicate(Key, Clauses, _), Names, [Key-Name/Arity|Names]) :-
     key_name(Key, Names, Name),

@@ -1,5 +1,6 @@
 :- module(real_goals,
-          [ predicate_clauses/4         % +Project, +Key, -Clauses, -Found
+          [ predicate_clauses/4,        % +Project, +Key, -Clauses, -Found
+            pure_term/2                 % +Term, -Pure
           ]).
 
 /** <module> Real clauses as pure clauses that cover them

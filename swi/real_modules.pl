@@ -2,6 +2,7 @@
           [ start_project/0,
             root_source/2,              % +Project, ?Source
             defining_sources/3,         % +Project, +Predicate, -Sources
+            source_of/3,                % +Project, +Predicate, -Source
             is_defined_in/2,            % +Project, +Predicate
             module_source/3,            % +Context, +Module, -Source
             exported_source/5,          % +Project, +Path, +Predicate, -Real, -Source
@@ -52,6 +53,13 @@ defining_sources(Project, Predicate, Sources) :-
 
 defines(Predicate, Source) :-
     is_defined(Source, Predicate).
+
+%!  source_of(+Project, +Predicate, -Source:dict) is semidet.
+%
+%   Source is what was read of a file that has the clauses of Predicate.
+
+source_of(Project, Predicate, Source) :-
+    defining_sources(Project, Predicate, [Source|_]).
 
 %!  is_defined_in(+Project, +Predicate) is semidet.
 %
@@ -230,7 +238,7 @@ ensure_index :-
 ensure_index :-
     forall(( absolute_file_name(library('INDEX'), Index, [extensions([pl]), access(read), solutions(all)]),
              file_directory_name(Index, Directory),
-             setup_call_cleanup(open(Index, read, In), index_entry(In, Name, Arity, Module, File), close(In)) ),
+             setup_call_cleanup(open(Index, read, In, [encoding(utf8)]), index_entry(In, Name, Arity, Module, File), close(In)) ),
            ( format(atom(Path), "~w/~w.pl", [Directory, File]),
              assertz(kept_index(Name/Arity, Module, Path)) )).
 

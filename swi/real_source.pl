@@ -43,21 +43,28 @@ file, and Path:Number in any other. A source is a dict:
 | doubts      | doubt(Line,Doubt): what was not understood of the file      |
 | adds        | doubt(Line,asserts): where it adds a clause that is not     |
 |             | known                                                       |
+| unread      | place(Path,Line,Column,Message) of each syntax error        |
+| operators   | the module that has the operators of its text               |
 */
 
 :- use_module(library(apply)).
 :- use_module(library(assoc)).
+:- use_module(library(error)).
+:- use_module(library(filesex)).
 :- use_module(library(gensym)).
 :- use_module(library(lists)).
 :- use_module(library(occurs)).
 :- use_module(library(pairs)).
+:- use_module(library(readutil)).
 :- use_module(library(yall)).
 
 :- dynamic kept_header/2, kept_reexports/2.
 
 %!  read_source(+File, -Source:dict) is det.
 %
-%   Throws what open/4 throws where File cannot be read.
+%   Throws what open/4 throws where File cannot be read, and
+%   error(not_text(Path, Text), _) where it, or a file that it loads, is no
+%   text in UTF-8.
 
 read_source(File, Source) :-
     read_sources([File], Project),
@@ -65,42 +72,70 @@ read_source(File, Source) :-
 
 %!  read_sources(+Files, -Project:dict) is det.
 %
-%   Files without a module are one source. One that another of Files includes,
-%   or loads into its module, is read there alone.
+%   Files is a file, a directory, or a list of such. A directory stands for the
+%   files of Prolog in it and below it. Files without a module are one source.
+%   One that another of Files includes, or loads into its module, is read there
+%   alone. Throws as read_source/2.
 
 read_sources(Files, Project) :-
-    maplist(readable_path, Files, Paths0),
+    (   is_list(Files)
+    ->  maplist(project_paths, Files, Lists)
+    ;   project_paths(Files, List),
+        Lists = [List]
+    ),
+    append(Lists, Paths0),
     list_to_set(Paths0, Paths),
+    forget_headers,
     Paths = [First|_],
     partition(has_module, Paths, ModulePaths, PlainPaths0),
     maplist(read_module(First), ModulePaths, ModuleTexts),
-    findall(Loaded, ( member(text(_, Texts, _), ModuleTexts), member(Loaded, Texts) ), Elsewhere),
+    findall(Loaded, ( member(text(_, Texts, _, _), ModuleTexts), member(Loaded, Texts) ), Elsewhere),
     subtract(PlainPaths0, Elsewhere, PlainPaths),
     (   PlainPaths == []
     ->  Texts = ModuleTexts
     ;   read_plain(First, PlainPaths, PlainText),
         Texts = [PlainText|ModuleTexts]
     ),
-    findall(Path-expansion(K, T), ( member(text(Path, _, Items), Texts), wide_expansion(Items, K, T) ), Wide),
+    findall(Path-expansion(K, T), ( member(text(Path, _, _, Items), Texts), wide_expansion(Items, K, T) ), Wide),
     maplist(text_source(Wide), Texts, Sources),
     Project = project{path:First, files:Paths, sources:Sources}.
 
-readable_path(File, Path) :-
-    absolute_file_name(File, Path, [access(read), file_type(prolog)]).
+project_paths(File, Paths) :-
+    (   atomic(File),
+        exists_directory(File)
+    ->  absolute_file_name(File, Directory, [file_type(directory)]),
+        findall(Path, directory_member(Directory, Path, [extensions([pl, prolog, pro]), recursive(true), access(read)]),
+                Paths0),
+        sort(Paths0, Paths),
+        (   Paths == []
+        ->  existence_error(prolog_file, File)
+        ;   true
+        )
+    ;   absolute_file_name(File, Path, [access(read), file_type(prolog)]),
+        Paths = [Path]
+    ).
+
+%   A file of the user's may have changed since it was last looked at.
+
+forget_headers :-
+    retractall(kept_reexports(_, _)),
+    forall(( kept_header(Path, _), \+ is_library_file(Path) ), retractall(kept_header(Path, _))),
+    forall(( nb_current(Variable, _), atom_concat('real source of ', Path, Variable), \+ is_library_file(Path) ),
+           nb_delete(Variable)).
 
 has_module(Path) :-
     path_header(Path, header(Module, _)),
     Module \== none.
 
-read_module(First, Path, text(Path, Texts, Items)) :-
+read_module(First, Path, text(Path, Texts, Operators, Items)) :-
     line_place(First, Path, Place),
-    first_state(Path, Place, State0),
+    first_state(Path, Place, Operators, State0),
     read_text(Path, State0, State, Items, []),
     loaded_texts(State, Texts).
 
-read_plain(First, [Path|Paths], text(Path, Texts, Items)) :-
+read_plain(First, [Path|Paths], text(Path, Texts, Operators, Items)) :-
     line_place(First, Path, Place),
-    first_state(Path, Place, State0),
+    first_state(Path, Place, Operators, State0),
     read_text(Path, State0, State1, Items, Rest),
     foldl(read_next(First), Paths, State1-Rest, State-[]),
     loaded_texts(State, Texts).
@@ -123,7 +158,7 @@ line_place(First, Path, Place) :-
 
 %   A scratch module has the operators of the text.
 
-first_state(Path, Place, State) :-
+first_state(Path, Place, Scratch, State) :-
     gensym('real source ', Scratch),
     State = state{path:Path, module:user, file_module:user, scratch:Scratch, double_quotes:string, back_quotes:codes,
                   conditions:[], flags:[], chr:no, included:no, place:Place, loaded:[user-Path], within:directive}.
@@ -169,9 +204,29 @@ file_reexports(Path, Imports) :-
     assertz(kept_reexports(Path, Imports)).
 
 read_text(Path, State0, State, Items, Rest) :-
-    setup_call_cleanup(open(Path, read, In, [encoding(utf8), bom(true)]),
+    setup_call_cleanup(open_text(Path, In),
                        ( skip_interpreter(In), read_items(In, State0, State, Items, Rest) ),
                        close(In)).
+
+%   open_text(+Path, -In): SWI-Prolog's reader does not survive some texts in
+%   UTF-16, and a program of the machine has no clauses.
+
+open_text(Path, In) :-
+    setup_call_cleanup(open(Path, read, Bytes, [type(binary)]),
+                       read_string(Bytes, 65536, Start),
+                       close(Bytes)),
+    (   no_text(Start, Text)
+    ->  throw(error(not_text(Path, Text), _))
+    ;   open(Path, read, In, [encoding(utf8), bom(true)])
+    ).
+
+no_text(Start, "this text is in UTF-16 or UTF-32: save it as UTF-8") :-
+    member(Mark, ["\xFF\\xFE\", "\xFE\\xFF\", "\x0\\x0\\xFE\\xFF\"]),
+    sub_string(Start, 0, _, _, Mark),
+    !.
+no_text(Start, "this is no text: it has a byte of 0") :-
+    sub_string(Start, _, _, _, "\x0\"),
+    !.
 
 skip_interpreter(In) :-
     (   peek_string(In, 2, "#!")
@@ -221,15 +276,24 @@ read_one(In, State, Term, Line) :-
     line_count(In, Before),
     catch(( read_term(In, Term, Options),
             stream_position_data(line_count, Position, Line0) ),
-          error(syntax_error(_), Place),
-          ( Term = '$unread',
-            (   nonvar(Place), ( Place = file(_, Line1, _, _) ; Place = stream(_, Line1, _, _) )
-            ->  Line0 = Line1
-            ;   Line0 = Before
-            ) )),
+          error(syntax_error(Error), Place),
+          ( syntax_error_place(Place, Before, Line0, Column),
+            message_to_string(error(syntax_error(Error), _), Message),
+            Term = '$unread'(place(State.path, Line0, Column, Message)) )),
     (   State.place == first
     ->  Line = Line0
     ;   Line = State.place:Line0
+    ).
+
+%   syntax_error_place(+Place, +Before, -Line, -Column): Before is the line at
+%   which the reader began.
+
+syntax_error_place(Place, Before, Line, Column) :-
+    (   nonvar(Place),
+        ( Place = file(_, Line, Position, _) ; Place = stream(_, Line, Position, _) )
+    ->  Column is Position + 1
+    ;   Line = Before,
+        Column = 1
     ).
 
 
@@ -245,12 +309,12 @@ item((:- Directive), Line, _, State0, State, Items, Items) :-
 item(_, _, _, State, State, Items, Items) :-
     is_skipped(State.conditions),
     !.
-item('$unread', Line, _, State, State, [doubt(Line, unread)|Items], Items) :- !.
+item('$unread'(Place), Line, _, State, State, [doubt(Line, unread), unread(Place)|Items], Items) :- !.
 item([Term|Terms], Line, In, State0, State, Items, Rest) :-
     !,                                  % a list of clauses, as they are
     (   is_list(Terms)
     ->  Items = [raw(Line, [Term|Terms])|More],
-        foldl([One, S0-I0, S-I]>>item(One, Line, In, S0, S, I0, I), [Term|Terms], State0-More, State-Rest)
+        foldl({Line, In}/[One, S0-I0, S-I]>>item(One, Line, In, S0, S, I0, I), [Term|Terms], State0-More, State-Rest)
     ;   State = State0,
         Items = [doubt(Line, unread)|Rest]
     ).
@@ -853,7 +917,7 @@ is_library_file(Path) :-
     sub_atom(Path, 0, _, _, Home).
 
 read_header(Path, Header) :-
-    setup_call_cleanup(open(Path, read, In, [encoding(utf8), bom(true)]),
+    setup_call_cleanup(open_text(Path, In),
                        ( skip_interpreter(In), first_module(In, Header) ),
                        close(In)).
 
@@ -885,7 +949,7 @@ before_module(Directive, In) :-
 
 %   The source of the items.
 
-text_source(Wide, text(Path, Texts, Items), Source) :-
+text_source(Wide, text(Path, Texts, Operators, Items), Source) :-
     (   memberchk(module(Module, Exports0), Items)
     ->  convlist(exported, Exports0, Exports)
     ;   Module = user, Exports = []
@@ -918,6 +982,7 @@ text_source(Wide, text(Path, Texts, Items), Source) :-
     group_pairs_by_key(Sorted, Groups),
     list_to_assoc(Groups, Clauses),
     findall(doubt(L, D), member(doubt(L, D), Items), Doubts0),
+    findall(Place, member(unread(Place), Items), Unread),
     findall(doubt(L, D),
             (   \+ looked_at(Path, Module), rewritten_clause(Items, Expansions, L, D)
             ;   member(doubt(L, D), Results)
@@ -931,12 +996,12 @@ text_source(Wide, text(Path, Texts, Items), Source) :-
     ->  Letters = yes
     ;   Letters = no
     ),
-    Source = source{path:Path, texts:Texts, module:Module, exports:Exports, clauses:Clauses, dynamic:Dynamic,
+    Source = source{path:Path, texts:Texts, operators:Operators, module:Module, exports:Exports, clauses:Clauses, dynamic:Dynamic,
                     multifile:Multifile, conditional:Conditional, tabled:Tabled, meta:Meta,
                     imports:Imports, reexports:Reexports, arithmetic:Arithmetic, redefined:Redefined,
                     transparent:Transparent,
                     expansions:Expansions, letters:Letters,
-                    doubts:Doubts, adds:Adds}.
+                    doubts:Doubts, unread:Unread, adds:Adds}.
 
 has_atom(Term, Name) :-
     sub_term(Sub, Term),

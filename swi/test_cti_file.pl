@@ -1,3 +1,5 @@
+:- encoding(utf8).
+
 % Tests of the module cti_file. Run them at the top of the repository, once bin/cti is built:
 %
 %     CTI=bin/cti swipl -g run_tests -t halt swi/test_cti_file.pl
@@ -629,7 +631,9 @@ reason_of(Text, Predicate, Reason) :-
     setup_call_cleanup(open(File, write, Out), write(Out, Text), close(Out)),
     cti_file_answer(File, Answer, []),
     delete_file(File),
-    memberchk(predicate(Predicate, _, [], Reason, _, _), Answer.predicates).
+    member(Found, Answer.predicates),
+    _{name:Predicate, modes:[], reason:Reason} :< Found,
+    !.
 
 :- end_tests(answers).
 

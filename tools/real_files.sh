@@ -8,9 +8,10 @@ rows=$1; shift
 here=$(dirname "$0")
 : > "$rows"
 for file in "$@"; do
+    before=$(wc -l < "$rows")
     said=$(timeout 15 "$here/../swi/cti-file" --timeout=12 --row "$file" 2>&1 >> "$rows" < /dev/null)
     status=$?
-    if [ $status -ne 0 ]; then
+    if [ "$(wc -l < "$rows")" -eq "$before" ]; then
         said=$(printf '%s' "$said" | head -1 | tr -d "'\\\\")
         echo "failed('$file',$status,'$said')." >> "$rows"
     fi

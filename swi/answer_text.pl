@@ -1,0 +1,166 @@
+:- module(answer_text,
+          [ print_answer/1,             % +Answer
+            print_reply/2,              % +Reply, +Answer
+            modes_text/2,               % +Modes, -Text
+            numbers_text/2,             % +Numbers, -Text
+            place_text/5,               % +File, +Line, +Column, +MainFile, -Text
+            file_shown/2,               % +File, -Shown
+            reason_text/2,              % +Reason, -Text
+            assumption_text/2           % +Doubt, -Text
+          ]).
+
+/** <module> What is said of a real file, for people */
+
+:- use_module(library(lists)).
+
+%!  print_answer(+Answer:dict) is det.
+%
+%   Prints the answer for people, as the script cti-file does.
+
+print_answer(Answer) :-
+    forall(member(Predicate, Answer.predicates), print_predicate(Predicate)),
+    (   Answer.assumptions == []
+    ->  true
+    ;   format("~nassumed:~n"),
+        forall(member(Assumption, Answer.assumptions), print_assumption(Assumption))
+    ),
+    format("~nAlways assumed: no cyclic terms, and no attributed variables in the query. Not proved: that the pure program~n\
+covers the file. See docs/real-files.md.~n").
+
+%!  print_reply(+Reply:dict, +Answer:dict) is det.
+%
+%   Prints the reply to a question, with the assumptions on which it rests.
+
+print_reply(Reply, Answer) :-
+    format("~w: ~w: ~s~n", [Reply.answer, Reply.query, Reply.text]),
+    (   Reply.answer == yes
+    ->  findall(Assumption,
+                ( member(Number, Reply.assumptions), member(Assumption, Answer.assumptions), Number == Assumption.number ),
+                Assumptions)
+    ;   Assumptions = []
+    ),
+    (   Assumptions == []
+    ->  true
+    ;   format("~nassumed:~n"),
+        forall(member(Assumption, Assumptions), print_assumption(Assumption))
+    ).
+
+print_predicate(Predicate) :-
+    _{line:Line, name:Name, modes:Modes, reason_text:Reason, assumptions:Numbers, not_shown:NotShown} :< Predicate,
+    format("~w~t~14|~q~t~48|", [Line, Name]),
+    (   Modes == []
+    ->  format(" no mode: ~s", [Reason])
+    ;   modes_text(Modes, Text),
+        numbers_text(Numbers, If),
+        format(" ~s~w", [Text, If])
+    ),
+    nl,
+    forall(member(place(_, _, _, Wanted), NotShown), format("~t~49|~s~n", [Wanted])).
+
+%!  modes_text(+Modes, -Text:string) is det.
+%
+%   [[1]] asks for ground arguments.
+
+modes_text(Modes, Text) :-
+    findall(Set, member(mode{arguments:Set, by:ground}, Modes), Ground),
+    findall(Set, member(mode{arguments:Set, by:length}, Modes), Lengths),
+    (   Lengths == []
+    ->  format(string(Text), "~w", [Ground])
+    ;   Ground == []
+    ->  format(string(Text), "~w by length", [Lengths])
+    ;   format(string(Text), "~w, ~w by length", [Ground, Lengths])
+    ).
+
+%!  numbers_text(+Numbers, -Text) is det.
+%
+%   Text is ` if 1, 3`, or nothing.
+
+numbers_text([], '') :- !.
+numbers_text(Numbers, Text) :-
+    length(Numbers, Count),
+    (   Count > 6
+    ->  length(First, 5),
+        append(First, _, Numbers),
+        atomic_list_concat(First, ', ', List),
+        Others is Count - 5,
+        format(atom(Text), " if ~w and ~d more", [List, Others])
+    ;   atomic_list_concat(Numbers, ', ', List),
+        format(atom(Text), " if ~w", [List])
+    ).
+
+print_assumption(Assumption) :-
+    _{number:Number, file:File, line:Line, predicate:Predicate, text:Text} :< Assumption,
+    file_shown(File, Shown),
+    (   Predicate == file
+    ->  format("~t~d~4|  ~w:~w: ~s~n", [Number, Shown, Line, Text])
+    ;   format("~t~d~4|  ~w:~w: ~q: ~s~n", [Number, Shown, Line, Predicate, Text])
+    ).
+
+%!  place_text(+File, +Line, +Column, +MainFile, -Text) is det.
+%
+%   Line:Column, after what file_shown/2 says of a file that is not the main
+%   one.
+
+place_text(File, Line, Column, MainFile, Text) :-
+    (   File == MainFile
+    ->  format(atom(Text), "~w:~w", [Line, Column])
+    ;   file_shown(File, Shown),
+        format(atom(Text), "~w:~w:~w", [Shown, Line, Column])
+    ).
+
+%!  file_shown(+File, -Shown) is det.
+%
+%   The base name; a file of SWI-Prolog's library is named as it is loaded.
+
+file_shown(File, Shown) :-
+    (   current_prolog_flag(home, Home),
+        atomic_list_concat([Home, '/library/'], Library),
+        atom_concat(Library, Rest, File),
+        file_name_extension(Stem, pl, Rest)
+    ->  format(atom(Shown), "library(~w)", [Stem])
+    ;   file_base_name(File, Shown)
+    ).
+
+%!  reason_text(+Reason, -Text:string) is semidet.
+%
+%   The text of a reason that names no place.
+
+reason_text(large(Count), Text) :-
+    format(string(Text), "the predicates of its recursion have ~d arguments, more than 12: the search was cut short", [Count]).
+reason_text(blown, "the search was given up: its numbers or lists grew too large").
+reason_text(unknown, "no ground arguments make sure that its calls end").
+
+%!  assumption_text(+Doubt, -Text:string) is det.
+
+assumption_text(goal, "the goal that it calls is not known: it ends").
+assumption_text(external(PI), Text) :-
+    format(string(Text), "~q is not read: it ends", [PI]).
+assumption_text(risk(place, PI), Text) :-
+    format(string(Text), "~q changes a term in place: no term that is known by its size grows", [PI]).
+assumption_text(risk(waits, PI), Text) :-
+    format(string(Text), "~q leaves a goal waiting: it ends when it runs", [PI]).
+assumption_text(risk(imports, PI), Text) :-
+    format(string(Text), "~q imports from another module: nothing that the file calls", [PI]).
+assumption_text(risk(runs, PI), Text) :-
+    format(string(Text), "~q may run goals that are not known, or wait: it ends", [PI]).
+assumption_text(bound, "the upper bound of between/3 is not inf").
+assumption_text(text, "the text that is formatted is not known: it has no ~@").
+assumption_text(letter, "letters of format/2 that the file defines, if the text has them, run goals that end").
+assumption_text(function, "the file's own function in arithmetic ends").
+assumption_text(rewritten, "the file rewrites this when it is loaded: what comes of it ends as this does").
+assumption_text(multifile, "other files may add clauses: these end").
+assumption_text(conditional, "it depends on :- if: the clauses read here are those loaded").
+assumption_text(tabled, "tabled with moded arguments or options: tabling does not call it more generally").
+assumption_text(transparent, "it runs in the module of its caller: what it calls there ends, as if it were here").
+assumption_text(imported, "it is also imported by its name: the clauses read here are those that are called").
+assumption_text(adds, "clauses that the file adds to it, and that are not known, are facts").
+assumption_text(unread, "this clause could not be read: nothing depends on it").
+assumption_text(flags, "a flag for the reading of what is in quotes may change here: it is read as if it did not").
+assumption_text(chr, "rules of CHR are not read: they end").
+assumption_text(dialect(Dialect), Text) :-
+    format(string(Text), "the file is for ~w: it is as for SWI-Prolog", [Dialect]).
+assumption_text(include(Spec), Text) :-
+    format(string(Text), "the included file ~q was not found: it adds no clauses", [Spec]).
+assumption_text(inherits, "what is imported here has no name that the file calls").
+assumption_text(loads(_), "what is loaded is not known: it adds no clauses").
+assumption_text(asserts, "a clause that it adds is not known").
