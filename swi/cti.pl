@@ -110,13 +110,13 @@ cti_infer(File, Certificate, Options) :-
     program(Program),
     tmp_file(cti, Messages),
     setup_call_cleanup(
-        ( open(CertificatePath, write, Out), open(Messages, write, Err) ),
+        ( open(CertificatePath, write, Out, [encoding(utf8)]), open(Messages, write, Err, [encoding(utf8)]) ),
         ( process_create(Program, Words, [stdout(stream(Out)), stderr(stream(Err)), process(Process)]),
           ended(Process, Timeout, Status) ),
         ( close(Out), close(Err) )),
     (   Status == 0
     ->  true
-    ;   read_file_to_string(Messages, Message, []),
+    ;   read_file_to_string(Messages, Message, [encoding(utf8)]),
         throw(error(cti_error(Status, Message), _))
     ).
 
@@ -267,7 +267,7 @@ depth_words(_, []).
 
 cti_session(Edits, Modes) :-
     must_be(list, Edits),
-    tmp_file_stream(text, Path, Stream),
+    tmp_file_stream(utf8, Path, Stream),
     call_cleanup(
         ( call_cleanup(maplist(write_edit(Stream), Edits), close(Stream)),
           run_cti([session, '--', file(Path)], Status, Facts, Message) ),
@@ -309,7 +309,7 @@ no_program(Name, Why) :-
 run_cti(Words, Status, Facts, Message) :-
     program(Program),
     process_create(Program, Words,
-                   [stdout(pipe(Out)), stderr(pipe(Err)), process(Process)]),
+                   [stdout(pipe(Out, [encoding(utf8)])), stderr(pipe(Err, [encoding(utf8)])), process(Process)]),
     call_cleanup(read_facts(Out, Facts), close(Out)),
     call_cleanup(read_string(Err, _, Message), close(Err)),
     process_wait(Process, exit(Status)).

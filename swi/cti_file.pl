@@ -92,7 +92,7 @@ cti_file_answer(File, Answer, Options) :-
     infer_options(Options, Timeout, InferOptions),
     cti_infer(PureFile, CertificateFile, InferOptions),
     checked(PureFile, CertificateFile, Checked, Options),
-    read_file_to_terms(CertificateFile, Facts, []),
+    read_file_to_terms(CertificateFile, Facts, [encoding(utf8)]),
     program_graph(Program, Graph),
     components(Graph, Components),
     answer(Source, Program, Names, Facts, Graph, Components, Predicates, Assumptions),
@@ -182,20 +182,25 @@ shown(Module:PI, Module, PI) :- !.
 shown(Key, _, Key).
 
 %   The certificate's predicates by key. An argument that stands for many is
-%   all of them.
+%   all of them. The certificate names each predicate of the program, so a key
+%   that it does not name is an error of this module, and no mode.
 
 modes_by_key(Names, Facts, Modes) :-
     findall(Predicate-Sets, member(terminates(Predicate, Sets), Facts), Pairs),
     list_to_assoc(Pairs, ByName),
     findall(Key-Sets,
             ( member(Key-Predicate, Names),
-              (   get_assoc(Predicate, ByName, Sets0)
-              ->  true
-              ;   Sets0 = [[]]              % a predicate that nothing calls, and without clauses
-              ),
+              certified_sets(Predicate, ByName, Sets0),
               key_sets(Key, Sets0, Sets) ),
             ByKey),
     list_to_assoc(ByKey, Modes).
+
+certified_sets(Predicate, ByName, Sets) :-
+    (   get_assoc(Predicate, ByName, Sets0)
+    ->  Sets = Sets0
+    ;   format(string(Message), "the certificate does not name ~q", [Predicate]),
+        throw(error(cti_error(internal, Message), _))
+    ).
 
 key_sets(_:_/Arity, Sets0, Sets) :-
     Arity > 12,

@@ -489,7 +489,7 @@ ensure_index :-
     !.
 ensure_index :-
     forall(( absolute_file_name(library('INDEX'), Path, [extensions([pl]), access(read), solutions(all)]),
-             setup_call_cleanup(open(Path, read, In), index_entry(In, Name, Arity, Module), close(In)) ),
+             setup_call_cleanup(open(Path, read, In, [encoding(utf8)]), index_entry(In, Name, Arity, Module), close(In)) ),
            assertz(kept_index(Name/Arity, Module))).
 
 index_entry(In, Name, Arity, Module) :-

@@ -1,3 +1,5 @@
+:- encoding(utf8).
+
 % Tests of the module cti_file. Run them at the top of the repository, once bin/cti is built:
 %
 %     CTI=bin/cti swipl -g run_tests -t halt swi/test_cti_file.pl
