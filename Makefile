@@ -10,7 +10,7 @@ ZSH_COMPLETION = $(SHARE)/zsh/site-functions/_cti
 FISH_COMPLETION = $(SHARE)/fish/vendor_completions.d/cti.fish
 FILE_MANUAL = $(SHARE)/man/man1/cti-file.1
 CONVERTER = $(SHARE)/cti/swi
-CONVERTER_FILES = components.pl cti.pl cti_file.pl pure_program.pl real_builtins.pl real_goals.pl real_source.pl
+CONVERTER_FILES = components.pl cti.pl cti_file.pl file_doubts.pl pure_program.pl real_builtins.pl real_goals.pl real_source.pl
 
 bin/cti: $(shell find crates -name '*.rt' -o -name '*.antt' | grep -v /out/) crates.txt
 	@tools/build.py $(JOBS)

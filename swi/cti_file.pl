@@ -225,7 +225,7 @@ first_line([clause(_, _, Line)|_], Line).
 
 %   notes_below(+Program, +Source, +Components, +Graph, -Below): the notes that
 %   each key relies on, as place(Key, Line, Doubt). Components come callees
-%   first. Doubts of the whole file are everybody's.
+%   first.
 
 notes_below(Program, Source, Components, Graph, Below) :-
     findall(Key-Places,
@@ -236,12 +236,27 @@ notes_below(Program, Source, Components, Graph, Below) :-
               sort(Places0, Places) ),
             Pairs),
     list_to_assoc(Pairs, Direct),
-    findall(place(file, Line, Doubt), member(doubt(Line, Doubt), Source.doubts), Everywhere0),
-    sort(Everywhere0, Everywhere),
     empty_assoc(Empty),
-    foldl(component_notes(Direct, Everywhere, Graph), Components, Empty, Below).
+    foldl(component_notes(Direct, Graph), Components, Empty, Below0),
+    everybodys_notes(Source, Pairs, Below0, Everywhere),
+    map_assoc(ord_union(Everywhere), Below0, Below).
 
-component_notes(Direct, Everywhere, Graph, Component, Below0, Below) :-
+%   Doubts of the whole file are everybody's, and so are those of what its
+%   directives call, and those of what a goal leaves behind.
+
+everybodys_notes(Source, Direct, Below, Everywhere) :-
+    findall(place(file, Line, Doubt), member(doubt(Line, Doubt), Source.doubts), Notes0),
+    (   get_assoc(directives, Below, Notes1)
+    ->  true
+    ;   Notes1 = []
+    ),
+    findall(place(Key, Line, lasting(What)),
+            ( member(_-Places, Direct), member(place(Key, Line, lasting(What)), Places) ),
+            Notes2),
+    append([Notes0, Notes1, Notes2], Notes),
+    sort(Notes, Everywhere).
+
+component_notes(Direct, Graph, Component, Below0, Below) :-
     findall(Notes,
             ( member(Key, Component),
               (   get_assoc(Key, Direct, Notes)
@@ -250,7 +265,7 @@ component_notes(Direct, Everywhere, Graph, Component, Below0, Below) :-
                   get_assoc(Callee, Below0, Notes)
               ) ),
             Lists),
-    ord_union([Everywhere|Lists], All),
+    ord_union(Lists, All),
     with_value(Component, All, Below0, Below).
 
 named_key(part(Key, _), Named) :-
@@ -260,6 +275,7 @@ named_key(special(Key, _), Named) :-
     !,
     named_key(Key, Named).
 named_key(prelude(PI), system:PI) :- !.
+named_key(directives, file) :- !.
 named_key(Key, Key).
 
 numbered_notes([], _, [], _).
@@ -529,8 +545,26 @@ assumption_text(risk(imports, PI), Text) :-
     format(string(Text), "~q imports from another module: nothing that the file calls", [PI]).
 assumption_text(risk(runs, PI), Text) :-
     format(string(Text), "~q may run goals that are not known, or wait: it ends", [PI]).
+assumption_text(risk(grows, PI), Text) :-
+    format(string(Text), "~q goes through a table: what it goes through does not grow meanwhile", [PI]).
+assumption_text(directive(Doubt), Text) :-
+    assumption_text(Doubt, Text0),
+    format(string(Text), "in this directive, ~s, and so does what it leaves behind", [Text0]).
+assumption_text(lasting(What), Text) :-
+    format(string(Text), "~q may have goals run, or other clauses called, later: these end", [What]).
+assumption_text(hook(PI), Text) :-
+    format(string(Text), "~q is called by the system: it ends whenever it is called", [PI]).
+assumption_text(libraries, "it says where libraries are found: those that the file uses are SWI-Prolog's").
+assumption_text(halts, "where the system halts, it runs the goals of at_halt/1: these end").
+assumption_text(quasi, "it may read a quasi quotation: the goal that reads its text ends").
+assumption_text(kept(PI), Text) :-
+    format(string(Text), "no goal of the file waits for a variable of what ~q gives, or it ends", [PI]).
+assumption_text(options, "the options that are not known hold no goal, or one that ends").
+assumption_text(cyclic, "its unifications succeed with a cyclic term only: it is not reached, or ends with it").
+assumption_text(flag(Flag), Text) :-
+    format(string(Text), "the flag ~q is set: the file runs as it does without", [Flag]).
 assumption_text(bound, "the upper bound of between/3 is not inf").
-assumption_text(text, "the text that is formatted is not known: it has no ~@").
+assumption_text(text, "the text that is formatted is not known: it has no ~@ and no ~W").
 assumption_text(letter, "letters of format/2 that the file defines, if the text has them, run goals that end").
 assumption_text(function, "the file's own function in arithmetic ends").
 assumption_text(rewritten, "the file rewrites this when it is loaded: what comes of it ends as this does").

@@ -13,6 +13,7 @@ A key names a predicate of the pure program:
   - Module:Name/Arity, a predicate of the file or of a library that is read;
   - special(Module:Name/Arity, Closures): the same with known closures,
     one for each argument, or `-` where the argument stays one;
+  - directives, a predicate that calls what the file's directives call;
   - prelude(Name/Arity), one of the predicates at the end of this file.
 
 What was found on the way is a list of need(Key) and note(Line, Doubt).
@@ -33,6 +34,9 @@ docs/real-files.md says for each doubt what is assumed.
 
 %!  predicate_clauses(+Main:dict, +Key, -Clauses, -Found) is det.
 
+predicate_clauses(Main, directives, Clauses, Found) :-
+    !,
+    phrase(directive_clauses(Main.directives, Main, Clauses), Found).
 predicate_clauses(_, prelude(Name/Arity), Clauses, Found) :-
     !,
     findall(pure(Args, Body, 0),
@@ -47,12 +51,48 @@ predicate_clauses(Main, special(Predicate, Closures), Clauses, Found) :-
 predicate_clauses(Main, Predicate, Clauses, Found) :-
     source_of(Main, Predicate, Source),
     source_clauses(Source, Predicate, Real),
-    phrase(( doubts_of(Source, Predicate, Real), pure_clauses(Real, Main, Source, Predicate, Clauses0) ), Found),
+    phrase(( doubts_of(Source, Predicate, Real),
+             pure_clauses(Real, Main, Source, Predicate, Clauses0),
+             joining_clauses(Main, Source, Predicate, Real, Joining) ),
+           Found),
     (   comes_and_goes(Source, Predicate)
     ->  general_clause(Predicate, General),
-        append(Clauses0, [General], Clauses)
-    ;   Clauses = Clauses0
+        append([Clauses0, Joining, [General]], Clauses)
+    ;   append(Clauses0, Joining, Clauses)
     ).
+
+%   Directives: what they call may leave something behind, so what is not
+%   known of it is said of each.
+
+directive_clauses([], _, []) --> [].
+directive_clauses([directive(Line, Module, Goal)|Directives], Main, [pure([], Pure, Line)|Clauses]) -->
+    { context(Main, Main, Module, Line, Context0),
+      Context = Context0.put(directive, yes),
+      phrase(goal(Goal, Context, Pure), Found0),
+      maplist(said_of_directive, Found0, Found) },
+    Found,
+    directive_clauses(Directives, Main, Clauses).
+
+said_of_directive(note(Line, Doubt), note(Line, directive(Doubt))) :- !.
+said_of_directive(Found, Found).
+
+context(Main, Source, Module, Line,
+        context{main:Main, source:Source, module:Module, line:Line, numbers:[], directive:no}).
+
+%   What tabling calls to join the answers of a predicate.
+
+joining_clauses(Main, Source, Predicate, Real, Clauses) -->
+    { Predicate = Module:_,
+      findall(Goal, member(Predicate-Goal, Source.joins), Goals),
+      first_line(Real, Line),
+      context(Main, Source, Module, Line, Context) },
+    goal_clauses(Goals, Predicate, Context, Clauses).
+
+goal_clauses([], _, _, []) --> [].
+goal_clauses([Goal|Goals], Predicate, Context, [pure(Args, Pure, Context.line)|Clauses]) -->
+    { general_clause(Predicate, pure(Args, true, _)) },
+    covering((find(goal(Goal)), goal(fail)), Context, Pure),
+    goal_clauses(Goals, Predicate, Context, Clauses).
 
 called((A, B), Key) :-
     (   called(A, Key)
@@ -79,7 +119,8 @@ doubts_of(Source, Predicate, Real) -->
     { first_line(Real, Line) },
     doubt_if(memberchk(Predicate, Source.multifile), Line, multifile),
     doubt_if(memberchk(Predicate, Source.conditional), Line, conditional),
-    doubt_if(memberchk(Predicate-moded, Source.tabled), Line, tabled),
+    doubt_if(( memberchk(Predicate-moded, Source.tabled)
+             ; memberchk(Predicate-_, Source.tabled), memberchk(tabling, Source.flags) ), Line, tabled),
     doubt_if(imported_by_name(Source, Predicate), Line, imported),
     doubt_if(( memberchk(Predicate, Source.transparent), has_context(Real) ), Line, transparent),
     doubt_if(( memberchk(Predicate, Source.dynamic), Source.adds \== [] ), Line, adds).
@@ -119,7 +160,7 @@ pure_clauses([], _, _, _, []) --> [].
 pure_clauses([clause(Line, Head, Body)|Real], Main, Source, Module:PI, [pure(Args, Pure, Line)|Clauses]) -->
     { Head =.. [_|Args0],
       maplist(pure_term, Args0, Args),
-      Context = context{main:Main, source:Source, module:Module, line:Line, numbers:[]} },
+      context(Main, Source, Module, Line, Context) },
     body(Body, Context, Pure),
     pure_clauses(Real, Main, Source, Module:PI, Clauses).
 
@@ -146,7 +187,7 @@ special_clauses([Real|Rest], Closures, Main, Source, Predicate, [pure(Args, Pure
       append(Args1, Variables, Args2),
       maplist(pure_term, Args2, Args),
       Predicate = Module:_,
-      Context = context{main:Main, source:Source, module:Module, line:Line, numbers:[]} },
+      context(Main, Source, Module, Line, Context) },
     body(Body, Context, Pure),
     special_clauses(Rest, Closures, Main, Source, Predicate, Clauses).
 
@@ -255,7 +296,18 @@ plain_goal(@(G, M), Context, P) -->
     goal(G, Context, P).
 plain_goal(G, Context, P) -->
     { resolved(G, Context, Where) },
-    goal_of(Where, G, Context, P).
+    (   { Context.directive == yes, Where \= own(_) }
+    ->  directive_goal(G, Where, Context, P)
+    ;   goal_of(Where, G, Context, P)
+    ).
+
+directive_goal(G, Where, Context, P) -->
+    (   { is_harmless_directive(G) }
+    ->  { P = true }
+    ;   { G = initialization(G1) ; G = initialization(G1, _) }
+    ->  goal(G1, Context, P)
+    ;   goal_of(Where, G, Context, P)
+    ).
 
 branch(A, Context, P) -->
     { nonvar(A), ( A = (C -> T) ; A = (C *-> T) ) },
@@ -413,7 +465,8 @@ imports(Path, header(Module, Exports), Selection, PI, Visited, Found) :-
     !,
     (   selected(Selection, Exports, PI, Real)
     ->  Found = Module:Real
-    ;   \+ is_library_file(Path),
+    ;   Path \== none,
+        \+ is_library_file(Path),
         \+ memberchk(Path, Visited),
         plain_file(Path, Source),
         member(import(Path1, Header1, Selection1), Source.reexports),
@@ -513,7 +566,10 @@ goal_of(library(Module), G, Context, P) -->
 goal_of(library(Module, Name/Arity), G0, Context, P) -->
     { G0 =.. [_|Args],
       G =.. [Name|Args] },
-    (   { known(Module, G) }
+    (   { is_defined(Context.main, Module:Name/Arity) }
+    ->  note(Context, imported),
+        call_of(Module:Name/Arity, Context.main, G, Context, P)
+    ;   { known(Module, G) }
     ->  builtin(Module, G, Context, P)
     ;   { library_source(Module, Source),
           is_defined(Source, Module:Name/Arity) }
@@ -535,6 +591,7 @@ known(Where, G) :-
 builtin(Where, G, Context, fail) -->
     { never_succeeds(Where, G) },
     !,
+    halt_note(G, Context),
     hook_calls(G, Context, _).
 builtin(system, G, Context, P) -->
     { G =.. [call, C|Xs],
@@ -558,9 +615,14 @@ builtin(Where, G, Context, P) -->
     !,
     text_note(G, Context),
     function_note(G, Context),
+    halt_note(G, Context),
+    term_note(Where, G, Context),
+    module_note(Where, G, Context),
     hook_calls(G, Context, P0),
-    { foldl(result, Xs, true, P1),
-      both(P0, P1, P) }.
+    listed_options(G, Context, P1),
+    { foldl(result, Xs, true, P2),
+      both(P0, P1, P01),
+      both(P01, P2, P) }.
 builtin(_, G, Context, true) -->
     { functor(G, Name, Arity) },
     note(Context, external(system:Name/Arity)).
@@ -585,11 +647,13 @@ between_goal(L, H, X, Context, P) -->
         )
     ).
 
-%   A text of format/2 that is not known may hold ~@, which runs a goal.
+%   A text of format/2 that is not known may hold ~@, which runs a goal, or ~W,
+%   whose options may hold one.
 
 text_note(G, Context) -->
     (   { format_text(G, Text) }
-    ->  (   { plain_text(Text) }
+    ->  (   { plain_text(Text),
+              \+ ( prints_message(G), memberchk('~@', Context.main.mentions) ) }
         ->  []
         ;   note(Context, text)
         ),
@@ -616,6 +680,11 @@ format_text(print_message_lines(_, _, Lines), Text) :-
     ;   true
     ).
 
+%   The lines of a message may be made by the file, with any text in it.
+
+prints_message(print_message(_, _)).
+prints_message(message_to_string(_, _)).
+
 %   message_text(+Message, -Text): a text that the message has. Messages for
 %   errors and for goals that failed may have one within.
 
@@ -633,17 +702,111 @@ message_text(Message, Text) :-
     ;   Text = ''
     ).
 
+%   plain_text(+Text): no letter of the text runs a goal.
+
 plain_text(Text) :-
+    text_codes(Text, Codes),
+    \+ runs_goal(Codes).
+
+text_codes(Text, Codes) :-
     (   atom(Text)
     ;   string(Text)
     ),
     !,
-    \+ sub_string(Text, _, _, _, "@").
-plain_text(Text) :-
+    string_codes(Text, Codes).
+text_codes(Text, Codes) :-
     is_list(Text),
     ground(Text),
-    \+ memberchk(0'@, Text),
-    \+ memberchk(@, Text).
+    catch(text_to_string(Text, String), _, fail),
+    string_codes(String, Codes).
+
+%   Goals of at_halt/1 run where the system halts, also for an error's message.
+
+halt_note(G, Context) -->
+    (   { memberchk(G, [halt, halt(_), print_message(_, _)]),
+          member(Name, [at_halt, thread_at_exit, prolog_at_thread_exit]),
+          memberchk(Name, Context.main.mentions) }
+    ->  note(Context, halts)
+    ;   []
+    ).
+
+%   Terms that are read run the syntaxes of quasi quotations, and terms that
+%   were kept may have goals that wait for their variables.
+
+term_note(Where, G, Context) -->
+    { functor(G, Name, Arity) },
+    (   { reads_terms(Where, Name/Arity),
+          memberchk(quasi_quotation_syntax, Context.main.mentions) }
+    ->  note(Context, quasi)
+    ;   { Where == system,
+          keeps_terms(Name/Arity),
+          member(Waiting, [freeze, when, dif, put_attr, put_attrs]),
+          memberchk(Waiting, Context.main.mentions) }
+    ->  note(Context, kept(Name/Arity))
+    ;   []
+    ).
+
+%   A module that inherits from another one than user.
+
+module_note(Where, G, Context) -->
+    (   { Where == system,
+          G = set_module(Property0),
+          strip_module(Property0, _, Property),
+          \+ Property \= base(_) }
+    ->  note(Context, lasting(set_module))
+    ;   []
+    ).
+
+%   The goals of options. Where they are not all known, one may hold a goal.
+
+listed_options(G, Context, P) -->
+    (   { option_list(G, Options) }
+    ->  options(Options, Context, P)
+    ;   { P = true }
+    ),
+    (   { prints(G), memberchk(printing, Context.main.flags) }
+    ->  note(Context, options)
+    ;   []
+    ).
+
+prints(G) :-
+    functor(G, Name, Arity),
+    hooks(Name/Arity, Hooks),
+    memberchk(user:portray/1, Hooks),
+    !.
+
+options(Options0, Context, P) -->
+    { nonvar(Options0) },
+    (   { Options0 = M:Options, atom(M) }
+    ->  !,
+        options(Options, Context.put(module, M), P)
+    ;   { is_list(Options0) },
+        !,
+        options_in(Options0, Context, P)
+    ).
+options(_, Context, true) -->
+    note(Context, options).
+
+options_in([], _, true) --> [].
+options_in([Option|Options], Context, P) -->
+    (   { nonvar(Option), \+ ( Option = (Name=_), \+ atom(Name) ) }
+    ->  { option_term(Option, Term),
+          (   option_goal(Term, G)
+          ->  P0 = find(goal(G))
+          ;   P0 = true
+          ) },
+        covering(P0, Context, P1)
+    ;   { P1 = true },
+        note(Context, options)
+    ),
+    options_in(Options, Context, P2),
+    { both(P1, P2, P) }.
+
+option_term(Option, Term) :-
+    (   Option = (Name=Value)
+    ->  Term =.. [Name, Value]
+    ;   Term = Option
+    ).
 
 %   Arithmetic with functions that the file defines.
 
@@ -664,10 +827,19 @@ function_note(G, Context) -->
 hook_calls(G, Context, P) -->
     { functor(G, Name, Arity) },
     (   { hooks(Name/Arity, Hooks),
-          include(is_defined(Context.main), Hooks, Own),
+          findall(Hook, ( member(Pattern, Hooks), defined_hook(Pattern, Context.main, Hook) ), Own),
           Own = [_|_] }
     ->  hooks_called(Own, P)
     ;   { P = true }
+    ).
+
+%   A hook of any module is written with a variable.
+
+defined_hook(Module:PI, Source, Module:PI) :-
+    (   nonvar(Module)
+    ->  is_defined(Source, Module:PI)
+    ;   assoc_to_keys(Source.clauses, Keys),
+        member(Module:PI, Keys)
     ).
 
 hooks_called([], true) --> [].
@@ -699,6 +871,8 @@ covering(goal(G), Context, P) -->
     goal(G, Context, P).
 covering(hooks(G), Context, P) -->
     hook_calls(G, Context, P).
+covering(options(Options), Context, P) -->
+    options(Options, Context, P).
 covering(find(R), Context, P) -->
     covering(R, Context, P0),
     { both(P0, fail, P1),
