@@ -238,7 +238,7 @@ forget_work_files(Prefix, Options) :-
 answer_predicates(Known, Predicates, Assumptions) :-
     Project = Known.project,
     own_keys(Project, Own),
-    notes_below(Known.program, Known.components, Known.graph, Below),
+    notes_below(Known.program, Project, Known.components, Known.graph, Below),
     findall(Note,
             (   member(Key-_, Own), get_assoc(Key, Below, Notes), member(Note, Notes)
             ;   member(Source, Project.sources), member(doubt(Line, Doubt), Source.doubts), Note = place(file, Line, Doubt)
@@ -322,10 +322,11 @@ key_place(Key, Source, First, File, Line, Column) :-
     place_of_line(Place, First, File, Line, Column).
 
 
-%   notes_below(+Program, +Components, +Graph, -Below): the notes that each key
-%   relies on, as place(Key, Line, Doubt). Components come callees first.
+%   notes_below(+Program, +Project, +Components, +Graph, -Below): the notes that
+%   each key relies on, as place(Key, Line, Doubt). Components come callees
+%   first.
 
-notes_below(Program, Components, Graph, Below) :-
+notes_below(Program, Project, Components, Graph, Below) :-
     findall(Key-Places,
             ( member(predicate(Key, _, Notes), Program),
               findall(Place, ( member(Note, Notes), place_of_note(Note, Key, Place) ), Places0),
@@ -333,7 +334,29 @@ notes_below(Program, Components, Graph, Below) :-
             Pairs),
     list_to_assoc(Pairs, Direct),
     empty_assoc(Empty),
-    foldl(component_notes(Direct, Graph), Components, Empty, Below).
+    foldl(component_notes(Direct, Graph), Components, Empty, Below0),
+    everybodys_notes(Project, Pairs, Below0, Everywhere),
+    map_assoc(ord_union(Everywhere), Below0, Below).
+
+%   Doubts of what the directives of the files call are everybody's, and so are
+%   those of what a goal of the files leaves behind.
+
+everybodys_notes(Project, Direct, Below, Everywhere) :-
+    (   get_assoc(directives, Below, Notes1)
+    ->  true
+    ;   Notes1 = []
+    ),
+    findall(place(Key, Line, lasting(What)),
+            ( member(_-Places, Direct), member(place(Key, Line, lasting(What)), Places), is_of_roots(Key, Project) ),
+            Notes2),
+    append(Notes1, Notes2, Notes),
+    sort(Notes, Everywhere).
+
+is_of_roots(file, _) :- !.
+is_of_roots(Key, Project) :-
+    member(Source, Project.sources),
+    is_defined(Source, Key),
+    !.
 
 place_of_note(note(Line, file(Doubt)), _, place(file, Line, Doubt)) :- !.
 place_of_note(note(Line, Doubt), Key, place(Named, Line, Doubt)) :-

@@ -14,6 +14,7 @@ A key names a predicate of the pure program:
   - Module:Name/Arity, a predicate of the file or of a library that is read;
   - special(Module:Name/Arity, Closures): the same with known closures,
     one for each argument, or `-` where the argument stays one;
+  - directives, a predicate that calls what the file's directives call;
   - prelude(Name/Arity), one of the predicates at the end of this file.
 
 What was found on the way is a list of need(Key) and note(Line, Doubt).
@@ -33,6 +34,9 @@ docs/real-files.md says for each doubt what is assumed.
 
 %!  predicate_clauses(+Project:dict, +Key, -Clauses, -Found) is det.
 
+predicate_clauses(Project, directives, Clauses, Found) :-
+    !,
+    phrase(directives_of(Project.sources, Project, Clauses), Found).
 predicate_clauses(_, prelude(Name/Arity), Clauses, Found) :-
     !,
     findall(pure(Args, Body, 0),
@@ -43,7 +47,7 @@ predicate_clauses(Project, special(Predicate, Closures), Clauses, Found) :-
     !,
     defining_sources(Project, Predicate, [Source]),
     source_clauses(Source, Predicate, Real),
-    phrase(( file_doubts(Source), special_clauses(Real, Closures, Project, Source, Predicate, Clauses) ), Found).
+    phrase(( doubts_of_file(Source), special_clauses(Real, Closures, Project, Source, Predicate, Clauses) ), Found).
 predicate_clauses(Project, Predicate, Clauses, Found) :-
     defining_sources(Project, Predicate, Sources),
     phrase(clauses_in_sources(Sources, Project, Predicate, Clauses0), Found),
@@ -57,21 +61,61 @@ predicate_clauses(Project, Predicate, Clauses, Found) :-
 clauses_in_sources([], _, _, []) --> [].
 clauses_in_sources([Source|Sources], Project, Predicate, Clauses) -->
     { source_clauses(Source, Predicate, Real) },
-    file_doubts(Source),
+    doubts_of_file(Source),
     doubts_of(Source, Project, Predicate, Real),
     pure_clauses(Real, Project, Source, Predicate, Clauses0),
+    joining_clauses(Project, Source, Predicate, Real, Joining),
     clauses_in_sources(Sources, Project, Predicate, Clauses1),
-    { append(Clauses0, Clauses1, Clauses) }.
+    { append([Clauses0, Joining, Clauses1], Clauses) }.
 
 %   What is doubted of a file concerns each of its predicates.
 
-file_doubts(Source) -->
+doubts_of_file(Source) -->
     file_notes(Source.doubts).
 
 file_notes([]) --> [].
 file_notes([doubt(Line, Doubt)|Doubts]) -->
     [note(Line, file(Doubt))],
     file_notes(Doubts).
+
+%   Directives: what they call may leave something behind, so what is not
+%   known of it is said of each.
+
+directives_of([], _, []) --> [].
+directives_of([Source|Sources], Project, Clauses) -->
+    directive_clauses(Source.directives, Project, Source, Clauses0),
+    directives_of(Sources, Project, Clauses1),
+    { append(Clauses0, Clauses1, Clauses) }.
+
+directive_clauses([], _, _, []) --> [].
+directive_clauses([directive(Line, Module, Goal)|Directives], Project, Source, [pure([], Pure, Line)|Clauses]) -->
+    { context(Project, Source, Module, Line, Context0),
+      Context = Context0.put(directive, yes),
+      phrase(goal(Goal, Context, Pure), Found0),
+      maplist(said_of_directive, Found0, Found) },
+    Found,
+    directive_clauses(Directives, Project, Source, Clauses).
+
+said_of_directive(note(Line, Doubt), note(Line, directive(Doubt))) :- !.
+said_of_directive(Found, Found).
+
+context(Project, Source, Module, Line,
+        context{project:Project, source:Source, module:Module, line:Line, numbers:[], directive:no}).
+
+%   What tabling calls to join the answers of a predicate.
+
+joining_clauses(Project, Source, Predicate, Real, Clauses) -->
+    { Predicate = Module:_,
+      findall(Goal, member(Predicate-Goal, Source.joins), Goals),
+      first_line(Real, Line),
+      context(Project, Source, Module, Line, Context) },
+    goal_clauses(Goals, Predicate, Context, Clauses).
+
+goal_clauses([], _, _, []) --> [].
+goal_clauses([Goal|Goals], Predicate, Context, [pure(Args, Pure, Context.line)|Clauses]) -->
+    { general_clause(Predicate, pure(Args, true, _)) },
+    covering((find(goal(Goal)), goal(fail)), Context, Pure),
+    goal_clauses(Goals, Predicate, Context, Clauses).
 
 called((A, B), Key) :-
     (   called(A, Key)
@@ -98,7 +142,8 @@ doubts_of(Source, Project, Predicate, Real) -->
     { first_line(Real, Line) },
     doubt_if(memberchk(Predicate, Source.multifile), Line, multifile),
     doubt_if(memberchk(Predicate, Source.conditional), Line, conditional),
-    doubt_if(memberchk(Predicate-moded, Source.tabled), Line, tabled),
+    doubt_if(( memberchk(Predicate-moded, Source.tabled)
+             ; memberchk(Predicate-_, Source.tabled), memberchk(tabling, Source.flags) ), Line, tabled),
     doubt_if(imported_by_name(Source, Predicate), Line, imported),
     doubt_if(( memberchk(Predicate, Source.transparent), has_context(Real) ), Line, transparent),
     doubt_if(( memberchk(Predicate, Source.dynamic), adds_unknown(Project, Source) ), Line, adds),
@@ -163,7 +208,7 @@ pure_clauses([], _, _, _, []) --> [].
 pure_clauses([clause(Line, Head, Body)|Real], Project, Source, Module:PI, [pure(Args, Pure, Line)|Clauses]) -->
     { Head =.. [_|Args0],
       maplist(pure_term, Args0, Args),
-      Context = context{project:Project, source:Source, module:Module, line:Line, numbers:[]} },
+      context(Project, Source, Module, Line, Context) },
     body(Body, Context, Pure),
     pure_clauses(Real, Project, Source, Module:PI, Clauses).
 
@@ -190,7 +235,7 @@ special_clauses([Real|Rest], Closures, Project, Source, Predicate, [pure(Args, P
       append(Args1, Variables, Args2),
       maplist(pure_term, Args2, Args),
       Predicate = Module:_,
-      Context = context{project:Project, source:Source, module:Module, line:Line, numbers:[]} },
+      context(Project, Source, Module, Line, Context) },
     body(Body, Context, Pure),
     special_clauses(Rest, Closures, Project, Source, Predicate, Clauses).
 
@@ -267,7 +312,18 @@ plain_goal(@(G, M), Context, P) -->
     goal(G, Context, P).
 plain_goal(G, Context, P) -->
     { resolved(G, Context, Where) },
-    goal_of(Where, G, Context, P).
+    (   { Context.directive == yes, Where \= own(_) }
+    ->  directive_goal(G, Where, Context, P)
+    ;   goal_of(Where, G, Context, P)
+    ).
+
+directive_goal(G, Where, Context, P) -->
+    (   { is_harmless_directive(G) }
+    ->  { P = true }
+    ;   { G = initialization(G1) ; G = initialization(G1, _) }
+    ->  goal(G1, Context, P)
+    ;   goal_of(Where, G, Context, P)
+    ).
 
 branch(A, Context, P) -->
     { nonvar(A), ( A = (C -> T) ; A = (C *-> T) ) },
@@ -456,7 +512,12 @@ goal_of(builtin, G, Context, P) -->
 goal_of(exported(Path, Module:Name/Arity), G0, Context, P) -->
     { G0 =.. [_|Args],
       G =.. [Name|Args] },
-    (   { is_library_file(Path),
+    (   { root_source(Context.project, Own),
+          is_defined(Own, Module:Name/Arity),
+          Own.path \== Path }
+    ->  note(Context, imported),
+        call_of(Module:Name/Arity, Own, G, Context, P)
+    ;   { is_library_file(Path),
           known(Module, G) }
     ->  builtin(Module, G, Context, P)
     ;   { exported_source(Context.project, Path, Module:Name/Arity, Real, Source) }
@@ -480,6 +541,7 @@ known(Where, G) :-
 builtin(Where, G, Context, fail) -->
     { never_succeeds(Where, G) },
     !,
+    halt_note(G, Context),
     hook_calls(G, Context, _).
 builtin(system, G, Context, P) -->
     { G =.. [call, C|Xs],
@@ -503,9 +565,14 @@ builtin(Where, G, Context, P) -->
     !,
     text_note(G, Context),
     function_note(G, Context),
+    halt_note(G, Context),
+    term_note(Where, G, Context),
+    module_note(Where, G, Context),
     hook_calls(G, Context, P0),
-    { foldl(result, Xs, true, P1),
-      both(P0, P1, P) }.
+    listed_options(G, Context, P1),
+    { foldl(result, Xs, true, P2),
+      both(P0, P1, P01),
+      both(P01, P2, P) }.
 builtin(_, G, Context, true) -->
     { functor(G, Name, Arity) },
     note(Context, external(system:Name/Arity)).
@@ -530,11 +597,13 @@ between_goal(L, H, X, Context, P) -->
         )
     ).
 
-%   A text of format/2 that is not known may hold ~@, which runs a goal.
+%   A text of format/2 that is not known may hold ~@, which runs a goal, or ~W,
+%   whose options may hold one.
 
 text_note(G, Context) -->
     (   { format_text(G, Text) }
-    ->  (   { plain_text(Text) }
+    ->  (   { plain_text(Text),
+              \+ ( prints_message(G), mentions(Context, '~@') ) }
         ->  []
         ;   note(Context, text)
         ),
@@ -546,11 +615,25 @@ text_note(G, Context) -->
     ).
 
 has_letters(Context) :-
-    (   Context.source.letters == yes
-    ->  true
-    ;   root_source(Context.project, Source),
-        Source.letters == yes
-    ->  true
+    concerned_source(Context, Source),
+    Source.letters == yes,
+    !.
+
+mentions(Context, Name) :-
+    concerned_source(Context, Source),
+    memberchk(Name, Source.mentions),
+    !.
+
+sets_flag(Context, Kind) :-
+    concerned_source(Context, Source),
+    memberchk(Kind, Source.flags),
+    !.
+
+%   What the whole program does concerns each of its texts.
+
+concerned_source(Context, Source) :-
+    (   Source = Context.source
+    ;   root_source(Context.project, Source)
     ).
 
 format_text(format(Text), Text).
@@ -569,6 +652,11 @@ format_text(print_message_lines(_, _, Lines), Text) :-
     ;   true
     ).
 
+%   The lines of a message may be made by the file, with any text in it.
+
+prints_message(print_message(_, _)).
+prints_message(message_to_string(_, _)).
+
 %   message_text(+Message, -Text): a text that the message has. Messages for
 %   errors and for goals that failed may have one within.
 
@@ -586,17 +674,111 @@ message_text(Message, Text) :-
     ;   Text = ''
     ).
 
+%   plain_text(+Text): no letter of the text runs a goal.
+
 plain_text(Text) :-
+    text_codes(Text, Codes),
+    \+ runs_goal(Codes).
+
+text_codes(Text, Codes) :-
     (   atom(Text)
     ;   string(Text)
     ),
     !,
-    \+ sub_string(Text, _, _, _, "@").
-plain_text(Text) :-
+    string_codes(Text, Codes).
+text_codes(Text, Codes) :-
     is_list(Text),
     ground(Text),
-    \+ memberchk(0'@, Text),
-    \+ memberchk(@, Text).
+    catch(text_to_string(Text, String), _, fail),
+    string_codes(String, Codes).
+
+%   Goals of at_halt/1 run where the system halts, also for an error's message.
+
+halt_note(G, Context) -->
+    (   { memberchk(G, [halt, halt(_), print_message(_, _)]),
+          member(Name, [at_halt, thread_at_exit, prolog_at_thread_exit]),
+          mentions(Context, Name) }
+    ->  note(Context, halts)
+    ;   []
+    ).
+
+%   Terms that are read run the syntaxes of quasi quotations, and terms that
+%   were kept may have goals that wait for their variables.
+
+term_note(Where, G, Context) -->
+    { functor(G, Name, Arity) },
+    (   { reads_terms(Where, Name/Arity),
+          mentions(Context, quasi_quotation_syntax) }
+    ->  note(Context, quasi)
+    ;   { Where == system,
+          keeps_terms(Name/Arity),
+          member(Waiting, [freeze, when, dif, put_attr, put_attrs]),
+          mentions(Context, Waiting) }
+    ->  note(Context, kept(Name/Arity))
+    ;   []
+    ).
+
+%   A module that inherits from another one than user.
+
+module_note(Where, G, Context) -->
+    (   { Where == system,
+          G = set_module(Property0),
+          strip_module(Property0, _, Property),
+          \+ Property \= base(_) }
+    ->  note(Context, lasting(set_module))
+    ;   []
+    ).
+
+%   The goals of options. Where they are not all known, one may hold a goal.
+
+listed_options(G, Context, P) -->
+    (   { option_list(G, Options) }
+    ->  options(Options, Context, P)
+    ;   { P = true }
+    ),
+    (   { prints(G), sets_flag(Context, printing) }
+    ->  note(Context, options)
+    ;   []
+    ).
+
+prints(G) :-
+    functor(G, Name, Arity),
+    hooks(Name/Arity, Hooks),
+    memberchk(user:portray/1, Hooks),
+    !.
+
+options(Options0, Context, P) -->
+    { nonvar(Options0) },
+    (   { Options0 = M:Options, atom(M) }
+    ->  !,
+        options(Options, Context.put(module, M), P)
+    ;   { is_list(Options0) },
+        !,
+        options_in(Options0, Context, P)
+    ).
+options(_, Context, true) -->
+    note(Context, options).
+
+options_in([], _, true) --> [].
+options_in([Option|Options], Context, P) -->
+    (   { nonvar(Option), \+ ( Option = (Name=_), \+ atom(Name) ) }
+    ->  { option_term(Option, Term),
+          (   option_goal(Term, G)
+          ->  P0 = find(goal(G))
+          ;   P0 = true
+          ) },
+        covering(P0, Context, P1)
+    ;   { P1 = true },
+        note(Context, options)
+    ),
+    options_in(Options, Context, P2),
+    { both(P1, P2, P) }.
+
+option_term(Option, Term) :-
+    (   Option = (Name=Value)
+    ->  Term =.. [Name, Value]
+    ;   Term = Option
+    ).
 
 %   Arithmetic with functions that the file defines.
 
@@ -617,10 +799,20 @@ function_note(G, Context) -->
 hook_calls(G, Context, P) -->
     { functor(G, Name, Arity) },
     (   { hooks(Name/Arity, Hooks),
-          include(is_defined_in(Context.project), Hooks, Own),
+          findall(Hook, ( member(Pattern, Hooks), defined_hook(Pattern, Context.project, Hook) ), Own),
           Own = [_|_] }
     ->  hooks_called(Own, P)
     ;   { P = true }
+    ).
+
+%   A hook of any module is written with a variable.
+
+defined_hook(Module:PI, Project, Module:PI) :-
+    (   nonvar(Module)
+    ->  is_defined_in(Project, Module:PI)
+    ;   root_source(Project, Source),
+        assoc_to_keys(Source.clauses, Keys),
+        member(Module:PI, Keys)
     ).
 
 hooks_called([], true) --> [].
@@ -652,6 +844,8 @@ covering(goal(G), Context, P) -->
     goal(G, Context, P).
 covering(hooks(G), Context, P) -->
     hook_calls(G, Context, P).
+covering(options(Options), Context, P) -->
+    options(Options, Context, P).
 covering(find(R), Context, P) -->
     covering(R, Context, P0),
     { both(P0, fail, P1),

@@ -45,6 +45,10 @@ file, and Path:Number in any other. A source is a dict:
 |             | known                                                       |
 | unread      | place(Path,Line,Column,Message) of each syntax error        |
 | operators   | the module that has the operators of its text               |
+| directives  | directive(Line,Module,Goal) for each directive              |
+| mentions    | names in the text of what is run later, see file_doubts     |
+| flags       | `tabling`, `printing` where the file sets flags of these    |
+| joins       | Predicate-Goal: tabling calls Goal to join its answers      |
 */
 
 :- use_module(library(apply)).
@@ -57,6 +61,8 @@ file, and Path:Number in any other. A source is a dict:
 :- use_module(library(pairs)).
 :- use_module(library(readutil)).
 :- use_module(library(yall)).
+:- use_module(file_doubts).
+:- use_module(real_builtins, [flag_kind/2]).
 
 :- dynamic kept_header/2, kept_reexports/2.
 
@@ -598,25 +604,26 @@ names_what_it_changes(Goal, State) :-
 changes_reading(Goal) :-
     compound(Goal),
     compound_name_arity(Goal, Name, Arity),
-    (   memberchk(Name/Arity, [op/3, set_prolog_flag/2, add_import_module/3, set_base_module/1])
+    (   memberchk(Name/Arity, [op/3, set_prolog_flag/2, create_prolog_flag/3, add_import_module/3, set_base_module/1])
     ->  true
     ;   Goal = import(Import)
     ->  ground(Import),
         Import = _:_/_
+    ;   Goal = set_module(Property0)
+    ->  strip_module(Property0, _, Property),
+        \+ Property \= base(_)
     ;   Name \== '[|]',
         loading(Goal, Spec, _),
         \+ ( Name == autoload, atom(Spec) )        % an option
     ).
 
 may_run(Term, Line, Goal, State0-Items, State-Rest) :-
-    (   Goal = set_prolog_flag(Flag0, _)
-    ->  strip_module(Flag0, M, Flag),
-        (   ( var(Flag) ; memberchk(Flag, [double_quotes, back_quotes, character_escapes]) ),
-            \+ ( nonvar(Flag0), Flag0 = _:_, atom(M), M \== State0.module )
-        ->  (   Term = clause(_)
-            ->  Items = [flags_by_call(Line)|Rest]
-            ;   Items = [doubt(Line, flags)|Rest]
-            )
+    (   ( Goal = set_prolog_flag(Flag0, _) ; Goal = create_prolog_flag(Flag0, _, _) )
+    ->  flag_parts(Flag0, State0, M, Flag),
+        flag_kind(Flag, Kind),
+        (   flag_item(Kind, Flag, Line, Item),
+            \+ of_another_module(Flag, M, State0)
+        ->  flag_items(Term, Kind, Item, Line, Items, Rest)
         ;   Items = Rest
         ),
         State = State0
@@ -631,6 +638,20 @@ within(Term, Within) :-
     ->  Within = clause
     ;   Within = directive
     ).
+
+%   A flag that a clause sets: whether a directive calls it is looked for
+%   later, where it concerns the reading. A flag that is not known may be one
+%   of tabling.
+
+flag_items(clause(_), Kind, Item, Line, Items, Rest) :-
+    !,
+    (   Kind == reading
+    ->  Items = [flags_by_call(Line)|Rest]
+    ;   Kind == any
+    ->  Items = [flags_by_call(Line), flag(tabling), flag(printing)|Rest]
+    ;   Items = [Item|Rest]
+    ).
+flag_items(_, _, Item, _, [Item|Rest], Rest).
 
 %   obeyed_in(+Directive, +M, ..): a directive for the module M. What it
 %   declares is of M. Flags are those of the text, as without M.
@@ -667,9 +688,13 @@ obeyed(set_prolog_flag(Flag0, Value), Line, _, State0, State, Items, Rest) :-
     ->  Items = [doubt(Line, unread)|Rest]
     ;   Items = Rest
     ).
-obeyed(set_prolog_flag(Flag0, _), Line, _, State, State, [doubt(Line, flags)|Rest], Rest) :-
-    strip_module(Flag0, _, Flag),
-    Flag == character_escapes.
+obeyed(set_prolog_flag(Flag0, _), Line, _, State, State, [Item|Rest], Rest) :-
+    flag_parts(Flag0, State, M, Flag),
+    \+ of_another_module(Flag, M, State),
+    flag_kind(Flag, Kind),
+    flag_item(Kind, Flag, Line, Item).
+obeyed(create_prolog_flag(Flag, Value, _), Line, In, State0, State, Items, Rest) :-
+    obeyed(set_prolog_flag(Flag, Value), Line, In, State0, State, Items, Rest).
 obeyed(encoding(Encoding), _, In, State, State, Rest, Rest) :-
     set_stream(In, encoding(Encoding)).
 obeyed(expects_dialect(Dialect), Line, _, State, State, Items, Rest) :-
@@ -698,6 +723,9 @@ obeyed(import(Spec), Line, _, State, State, [Item|Rest], Rest) :-
     ).
 obeyed(add_import_module(_, _, _), Line, _, State, State, [doubt(Line, inherits)|Rest], Rest).
 obeyed(set_base_module(_), Line, _, State, State, [doubt(Line, inherits)|Rest], Rest).
+obeyed(set_module(Property0), Line, _, State, State, [doubt(Line, inherits)|Rest], Rest) :-
+    strip_module(Property0, _, Property),
+    \+ Property \= base(_).
 obeyed(Directive, Line, _, State0, State, Items, Rest) :-
     loading(Directive, Spec, Selection),
     !,
@@ -714,6 +742,27 @@ obeyed(Directive, Line, _, State0, State, Items, Rest) :-
 obeyed(Directive, _, _, State, State, Items, Rest) :-
     declaration(Directive, Kind, Specs),
     declared_items(Kind, Specs, State.module, State, Items, Rest).
+
+%   Some flags of the reading are those of a module.
+
+flag_parts(Flag0, State, M, Flag) :-
+    (   nonvar(Flag0), Flag0 = M:Flag
+    ->  true
+    ;   M = State.module, Flag = Flag0
+    ).
+
+of_another_module(Flag, M, State) :-
+    atom(M),
+    M \== State.module,
+    memberchk(Flag, [double_quotes, back_quotes, character_escapes, rational_syntax, var_prefix]).
+
+%   flag_item(+Kind, +Flag, +Line, -Item): what comes of a flag that is set.
+
+flag_item(any, _, Line, doubt(Line, flags)).
+flag_item(reading, _, Line, doubt(Line, flags)).
+flag_item(running, Flag, Line, doubt(Line, flag(Flag))).
+flag_item(tabling, _, _, flag(tabling)).
+flag_item(printing, _, _, flag(printing)).
 
 %   Where it is not known whether a declaration is loaded, what it changes is
 %   conditional.
@@ -763,12 +812,13 @@ declared(Kind, [A|B], Module, Item) :-
     (   declared(Kind, A, Module, Item)
     ;   declared(Kind, B, Module, Item)
     ).
-declared(tabled, as(Spec, Options), Module, tabled(Predicate, Kind)) :-
+declared(tabled, as(Spec, Options), Module, Item) :-
     !,
-    declared(tabled, Spec, Module, tabled(Predicate, Kind0)),
-    (   nonvar(Options), Options == variant
-    ->  Kind = Kind0
-    ;   Kind = moded
+    declared(tabled, Spec, Module, Item0),
+    (   Item0 = tabled(Predicate, _),
+        \+ ( nonvar(Options), Options == variant )
+    ->  Item = tabled(Predicate, moded)
+    ;   Item = Item0
     ).
 declared(Kind, as(Spec, _), Module, Item) :-
     !,
@@ -795,12 +845,45 @@ declared(Kind, Name/Arity, Module, Item) :-
     integer(Arity),
     !,
     declared_item(Kind, Module:Name/Arity, Item).
-declared(tabled, Head, Module, tabled(Module:Name/Arity, Kind)) :-
+declared(tabled, Head, Module, Item) :-
     callable(Head),
     functor(Head, Name, Arity),
     (   arg(_, Head, Argument), nonvar(Argument)
     ->  Kind = moded
     ;   Kind = plain
+    ),
+    (   Item = tabled(Module:Name/Arity, Kind)
+    ;   arg(_, Head, Join),
+        nonvar(Join),
+        joining_goal(Join, Goal),
+        Item = joins(Module:Name/Arity, Goal)
+    ).
+
+%   joining_goal(+Mode, -Goal): the goal that tabling calls for two answers.
+
+joining_goal(lattice(Join), Goal) :-
+    general_goal(Join, 3, Goal).
+joining_goal(po(Order), Goal) :-
+    general_goal(Order, 2, Goal).
+
+general_goal(Join, _, Join) :-
+    var(Join),
+    !.
+general_goal(M:Join, Arity, M:Goal) :-
+    !,
+    general_goal(Join, Arity, Goal).
+general_goal(Name/Arity, _, Goal) :-
+    atom(Name),
+    integer(Arity),
+    !,
+    functor(Goal, Name, Arity).
+general_goal(Join, Arity, Goal) :-
+    callable(Join),
+    functor(Join, Name, Arity0),
+    (   Arity0 =:= Arity
+    ->  functor(Goal, Name, Arity)
+    ;   More is Arity0 + Arity,
+        functor(Goal, Name, More)
     ).
 
 declared_item(dynamic, Predicate, dynamic(Predicate)).
@@ -969,9 +1052,9 @@ text_source(Wide, text(Path, Texts, Operators, Items), Source) :-
     collected(P, member(transparent(P), Items), Transparent),
     findall(import(F, H, S), member(import(F, H, S), Items), Imports),
     findall(import(F, H, S), member(reexport(F, H, S), Items), Reexports),
-    findall(P-clause(0, H, true), member(added(P, H), Asserted), Pairs2),
-    append(Pairs0, Pairs2, Expanding0),
-    partition(known_expansion(Items), Expanding0, Known, Expanding),
+    findall(P-clause(L, H, true), member(added(P, L, H), Asserted), Pairs2),
+    partition(known_expansion(Items), Pairs0, Known, Expanding0),
+    append(Expanding0, Pairs2, Expanding),
     findall(expansion(K, T), own_expansion(Path, Expanding, Module, K, T), Expansions0),
     findall(Expansion, ( member(Other-Expansion, Wide), Other \== Path ), Expansions1),
     append(Expansions0, Expansions1, Expansions),
@@ -991,7 +1074,13 @@ text_source(Wide, text(Path, Texts, Operators, Items), Source) :-
     findall(doubt(L, flags), flags_by_call(Items, Clauses, L), Doubts2),
     findall(doubt(L, asserts), member(unknown_assert(L), Asserted), Adds0),
     sort(Adds0, Adds),
-    append([Doubts0, Doubts1, Doubts2], Doubts),
+    append(Pairs, Pairs2, Written),
+    file_doubts(Items, Written, Doubts3),
+    append([Doubts0, Doubts1, Doubts2, Doubts3], Doubts),
+    findall(directive(L, M, D), member(directive(L, M, D), Items), Directives),
+    mentions(Items, Mentions),
+    collected(K, member(flag(K), Items), Flags),
+    findall(P-G, member(joins(P, G), Items), Joins),
     (   member(raw(_, Raw), Items), has_atom(Raw, format_predicate)
     ->  Letters = yes
     ;   Letters = no
@@ -1001,7 +1090,8 @@ text_source(Wide, text(Path, Texts, Operators, Items), Source) :-
                     imports:Imports, reexports:Reexports, arithmetic:Arithmetic, redefined:Redefined,
                     transparent:Transparent,
                     expansions:Expansions, letters:Letters,
-                    doubts:Doubts, unread:Unread, adds:Adds}.
+                    doubts:Doubts, unread:Unread, adds:Adds, directives:Directives, mentions:Mentions, flags:Flags,
+                    joins:Joins}.
 
 has_atom(Term, Name) :-
     sub_term(Sub, Term),
@@ -1067,8 +1157,7 @@ expansion_kind(goal_expansion, goal).
 %   of which it is known what comes of a term: clauses that are instances of
 %   some that are in its text.
 
-known_expansion(Items, (_:term_expansion/2)-clause(Line, Head, Body)) :-
-    Line \== 0,
+known_expansion(Items, (_:term_expansion/2)-clause(_, Head, Body)) :-
     arg(1, Head, Pattern),
     nonvar(Pattern),
     arg(2, Head, Out),
@@ -1190,15 +1279,22 @@ expansion_clause(Term) :-
 
 
 %   Clauses that the file's own goals add: asserts(Predicate,Line,Head,Body)
-%   for a rule, dynamic(Predicate), and unknown_assert(Line) where a clause
+%   for a rule, added(Predicate,Line,Head) for each clause, dynamic(Predicate),
+%   and unknown_assert(Line) where a clause
 %   that is added is not known.
 
 asserted(Items, Module, Asserted) :-
     findall(Found, asserted_in(Items, Module, Found), Asserted).
 
 asserted_in(Items, _, Found) :-
-    member(clause(M:_, Line, _, Body), Items),
-    asserted_by(Body, M, Line, Found).
+    member(clause(M:_, Line, Head, Body), Items),
+    (   asserted_by(Body, M, Line, Found)
+    ;   sub_term(Name, Head),           % what a fact may give to a call
+        Name \== Head,
+        atom(Name),
+        adds_name(Name),
+        Found = unknown_assert(Line)
+    ).
 asserted_in(Items, _, Found) :-
     member(directive(Line, M, Goal), Items),
     asserted_by(Goal, M, Line, Found).
@@ -1213,7 +1309,7 @@ asserted_by(Body, Module, Line, Found) :-
         ->  (   more_fits(More), atom(Context), catch(clause_parts(Clause, Context, M, Head, B), _, fail)
             ->  functor(Head, N, A),
                 (   Found = dynamic(M:N/A)
-                ;   Found = added(M:N/A, Head)
+                ;   Found = added(M:N/A, Line, Head)
                 ;   B \== true,
                     B \== (true, true),
                     Found = asserts(M:N/A, Line, Head, B)

@@ -635,6 +635,7 @@ named_key(special(Key, _), Named) :-
     !,
     named_key(Key, Named).
 named_key(prelude(PI), system:PI) :- !.
+named_key(directives, file) :- !.
 named_key(Key, Key).
 
 %!  shown(+Key, +Module, -Shown) is det.

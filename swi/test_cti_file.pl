@@ -203,7 +203,7 @@ test(number_of_zero_arguments, Sets == [[]]) :-
 test(list_of_clauses) :-
     is_open("p(a).\n[(p(X) :- p(X)), q(b)].\n", p/1).
 test(declaration_of_zero_arguments, Sets == [[]]) :-
-    said(":- meta_predicate f().\n:- foo().\np(a).\n", p/1, Sets, []).
+    said(":- meta_predicate f().\n:- foo().\np(a).\n", p/1, Sets, [directive(external(foo/0))]).
 test(names) :-
     is_open("'it''s \\\\ é'(X) :- '='(X).\n'='(X) :- 'it''s \\\\ é'(X).\np(X) :- '='(X).\n", p/1).
 test(kept_names) :-
