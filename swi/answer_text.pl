@@ -18,7 +18,7 @@
 %   Prints the answer for people, as the script cti-file does.
 
 print_answer(Answer) :-
-    forall(member(Predicate, Answer.predicates), print_predicate(Predicate)),
+    forall(member(Predicate, Answer.predicates), print_predicate(Predicate, Answer.files)),
     (   Answer.assumptions == []
     ->  true
     ;   format("~nassumed:~n"),
@@ -45,9 +45,15 @@ print_reply(Reply, Answer) :-
         forall(member(Assumption, Assumptions), print_assumption(Assumption))
     ).
 
-print_predicate(Predicate) :-
-    _{line:Line, name:Name, modes:Modes, reason_text:Reason, assumptions:Numbers, not_shown:NotShown} :< Predicate,
-    format("~w~t~14|~q~t~48|", [Line, Name]),
+%   Where several files were asked for, a predicate is said with its file.
+
+print_predicate(Predicate, Files) :-
+    _{file:File, line:Line, name:Name, modes:Modes, reason_text:Reason, assumptions:Numbers, not_shown:NotShown} :< Predicate,
+    (   Files = [_]
+    ->  format("~w~t~14|~q~t~48|", [Line, Name])
+    ;   file_shown(File, Shown),
+        format("~w:~w~t~24|~q~t~58|", [Shown, Line, Name])
+    ),
     (   Modes == []
     ->  format(" no mode: ~s", [Reason])
     ;   modes_text(Modes, Text),

@@ -13,6 +13,7 @@
             is_harmless_directive/1,    % +Goal
             flag_kind/2,                % +Flag, -Kind
             runs_goal/1,                % +Codes
+            is_hook/1,                  % +Predicate
             hooks/2,                    % +Name/Arity, -Hooks
             is_read_library/1           % ?Module
           ]).
@@ -524,6 +525,16 @@ hook(print, user:portray_attvar/1).
 hook(print, _:attr_portray_hook/2).
 hook(attributes, _:attribute_goals/3).
 hook(message, prolog:console_color/2).
+
+%!  is_hook(+Predicate) is semidet.
+%
+%   Predicate is one that a built-in predicate calls. It is always assumed that
+%   clauses of other files for it end.
+
+is_hook(Module:PI) :-
+    hook(_, Hook),
+    Hook == Module:PI,
+    !.
 
 %!  is_read_library(?Module) is nondet.
 %

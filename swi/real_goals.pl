@@ -47,7 +47,7 @@ predicate_clauses(Project, special(Predicate, Closures), Clauses, Found) :-
     !,
     defining_sources(Project, Predicate, [Source]),
     source_clauses(Source, Predicate, Real),
-    phrase(( doubts_of_file(Source), special_clauses(Real, Closures, Project, Source, Predicate, Clauses) ), Found).
+    phrase(( doubts_of_file(Project, Source), special_clauses(Real, Closures, Project, Source, Predicate, Clauses) ), Found).
 predicate_clauses(Project, Predicate, Clauses, Found) :-
     defining_sources(Project, Predicate, Sources),
     phrase(clauses_in_sources(Sources, Project, Predicate, Clauses0), Found),
@@ -61,17 +61,24 @@ predicate_clauses(Project, Predicate, Clauses, Found) :-
 clauses_in_sources([], _, _, []) --> [].
 clauses_in_sources([Source|Sources], Project, Predicate, Clauses) -->
     { source_clauses(Source, Predicate, Real) },
-    doubts_of_file(Source),
+    doubts_of_file(Project, Source),
     doubts_of(Source, Project, Predicate, Real),
     pure_clauses(Real, Project, Source, Predicate, Clauses0),
     joining_clauses(Project, Source, Predicate, Real, Joining),
     clauses_in_sources(Sources, Project, Predicate, Clauses1),
     { append([Clauses0, Joining, Clauses1], Clauses) }.
 
-%   What is doubted of a file concerns each of its predicates.
+%   What is doubted of a file concerns each of its predicates. It is always
+%   assumed that another file leaves nothing behind when it is loaded.
 
-doubts_of_file(Source) -->
-    file_notes(Source.doubts).
+doubts_of_file(Project, Source) -->
+    { is_root(Project, Source)
+    ->  Doubts = Source.doubts
+    ;   exclude(leaves_behind, Source.doubts, Doubts) },
+    file_notes(Doubts).
+
+leaves_behind(doubt(_, Doubt)) :-
+    memberchk(Doubt, [lasting(_), hook(_), flag(_), libraries]).
 
 file_notes([]) --> [].
 file_notes([doubt(Line, Doubt)|Doubts]) -->
@@ -140,7 +147,7 @@ general_clause(_:_/Arity, pure(Args, true, 0)) :-
 
 doubts_of(Source, Project, Predicate, Real) -->
     { first_line(Real, Line) },
-    doubt_if(memberchk(Predicate, Source.multifile), Line, multifile),
+    doubt_if(( memberchk(Predicate, Source.multifile), \+ is_hook(Predicate) ), Line, multifile),
     doubt_if(memberchk(Predicate, Source.conditional), Line, conditional),
     doubt_if(( memberchk(Predicate-moded, Source.tabled)
              ; memberchk(Predicate-_, Source.tabled), memberchk(tabling, Source.flags) ), Line, tabled),

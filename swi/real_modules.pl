@@ -140,12 +140,13 @@ exported_source(Project, Path, Module:PI, Visited, Real, Source) :-
 %!  import_of(+Source, +PI, -Import) is semidet.
 %
 %   What a directive of the file imports by that name: imported(Path,
-%   Module:PI), or imported(Path, none:PI). Where there are several, one from
+%   Module:PI), or imported(Path, none:PI), where Path is the file that has it
+%   and not one that exports it again. Where there are several, one from
 %   outside SWI-Prolog's library is taken; else one that is imported by its
 %   name.
 
 import_of(Source, PI, Import) :-
-    findall(Selection-imported(Path, Found),
+    findall(Selection-Found,
             ( member(import(Path, Header, Selection), Source.imports),
               imports(Path, Header, Selection, PI, [Source.path], Found) ),
             Imports),
@@ -165,7 +166,7 @@ imports(Path, header(Module, Exports), Selection, PI, Visited, Found) :-
     Module \== none,
     !,
     (   selected(Selection, Exports, PI, Real)
-    ->  Found = Module:Real
+    ->  Found = imported(Path, Module:Real)
     ;   atom(Path),
         \+ memberchk(Path, Visited),
         file_reexports(Path, Reexports),
@@ -173,7 +174,7 @@ imports(Path, header(Module, Exports), Selection, PI, Visited, Found) :-
         imports(Path1, Header1, Selection1, PI, [Path|Visited], Found)
     ->  true
     ).
-imports(Path, header(none, _), _, PI, Visited, none:PI) :-
+imports(Path, header(none, _), _, PI, Visited, imported(Path, none:PI)) :-
     (   atom(Path), exists_file(Path)
     ->  \+ memberchk(Path, Visited),
         file_source(Path, Source),

@@ -230,9 +230,10 @@ no_text(Start, "this text is in UTF-16 or UTF-32: save it as UTF-8") :-
     member(Mark, ["\xFF\\xFE\", "\xFE\\xFF\", "\x0\\x0\\xFE\\xFF\"]),
     sub_string(Start, 0, _, _, Mark),
     !.
-no_text(Start, "this is no text: it has a byte of 0") :-
-    sub_string(Start, _, _, _, "\x0\"),
-    !.
+no_text(Start, "this is no text: it begins with bytes of 0") :-
+    sub_string(Start, Before, _, _, "\x0\"),
+    !,
+    Before < 1024.              % some texts have one in a comment
 
 skip_interpreter(In) :-
     (   peek_string(In, 2, "#!")
@@ -1168,12 +1169,22 @@ known_expansion(Items, (_:term_expansion/2)-clause(_, Head, Body)) :-
 %   an instance of one of Results, or a list of such.
 
 instances(Out, Body, Items, Results) :-
+    conjuncts(Body, Goals, []),
+    instances_of(Out, Goals, Items, Results).
+
+instances_of(Out, Goals, Items, Results) :-
     (   var(Out)
-    ->  conjunct(Body, Goal),
-        gives_list(Goal, Out, Items, Results)
+    ->  select(Goal, Goals, Others),
+        nonvar(Goal),
+        (   gives_list(Goal, Out, Items, Results)
+        ;   Goal = (A = B),
+            A == Out,
+            nonvar(B),
+            instances_of(B, Others, Items, Results)
+        )
     ;   Out = [First|More]
-    ->  instances(First, Body, Items, Results0),
-        instances(More, Body, Items, Results1),
+    ->  instances_of(First, Goals, Items, Results0),
+        instances_of(More, Goals, Items, Results1),
         append(Results0, Results1, Results)
     ;   Out == []
     ->  Results = []
@@ -1182,13 +1193,12 @@ instances(Out, Body, Items, Results) :-
     ),
     !.
 
-conjunct(Body, Goal) :-
-    nonvar(Body),
-    (   Body = (A, B)
-    ->  (   conjunct(A, Goal)
-        ;   conjunct(B, Goal)
-        )
-    ;   Goal = Body
+conjuncts(Body, Goals, Rest) :-
+    (   nonvar(Body),
+        Body = (A, B)
+    ->  conjuncts(A, Goals, More),
+        conjuncts(B, More, Rest)
+    ;   Goals = [Body|Rest]
     ).
 
 gives_list(findall(Template, Goal, List), Out, Items, Results) :-

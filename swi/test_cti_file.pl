@@ -378,6 +378,22 @@ test(plain_file) :-
     format(string(Text), ":- ensure_loaded('~w').\np(X) :- append([], [], X).\n", [File]),
     is_open(Text, p/1),
     delete_file(File).
+test(module_that_exports_again) :-
+    tmp_file(again, Base),
+    file_name_extension(Base, pl, File),
+    file_base_name(Base, Name0),
+    atom_concat(inner, Name0, Inner),
+    file_directory_name(File, Directory),
+    directory_file_path(Directory, Inner, InnerBase),
+    file_name_extension(InnerBase, pl, InnerFile),
+    setup_call_cleanup(open(InnerFile, write, Out1),
+                       format(Out1, ":- module(inner, [append/3]).~nappend(X, Y, Z) :- append(X, Y, Z).~n", []), close(Out1)),
+    setup_call_cleanup(open(File, write, Out),
+                       format(Out, ":- module(again, []).~n:- reexport('~w').~n", [InnerFile]), close(Out)),
+    format(string(Text), ":- use_module('~w').\np(X) :- append([], [], X).\n", [File]),
+    is_open(Text, p/1),
+    delete_file(File),
+    delete_file(InnerFile).
 test(included_file) :-
     tmp_file(included, Base),
     file_name_extension(Base, pl, File),
@@ -428,22 +444,6 @@ test(transparent_without_need, Doubts == []) :-
     said(":- module(m, [p/1]).\n:- module_transparent p/1.\np(X) :- context_module(M), ( q(X, M) -> true ; fail ).\nq(_, _).\n", p/1, [[]], Doubts).
 test(other_file) :-
     is_assumed(":- use_module(no_such_file).\np(X) :- append(X, [a], X).\n", p/1, external(none:append/3)).
-test(module_that_exports_again) :-
-    tmp_file(again, Base),
-    file_name_extension(Base, pl, File),
-    file_base_name(Base, Name0),
-    atom_concat(inner, Name0, Inner),
-    file_directory_name(File, Directory),
-    directory_file_path(Directory, Inner, InnerBase),
-    file_name_extension(InnerBase, pl, InnerFile),
-    setup_call_cleanup(open(InnerFile, write, Out1),
-                       format(Out1, ":- module(inner, [append/3]).~nappend(X, Y, Z) :- append(X, Y, Z).~n", []), close(Out1)),
-    setup_call_cleanup(open(File, write, Out),
-                       format(Out, ":- module(again, []).~n:- reexport('~w').~n", [InnerFile]), close(Out)),
-    format(string(Text), ":- use_module('~w').\np(X) :- append([], [], X).\n", [File]),
-    is_assumed(Text, p/1, external(inner:append/3)),
-    delete_file(File),
-    delete_file(InnerFile).
 test(renamed_import) :-
     is_assumed(":- use_module(library(ugraphs), [vertices/2 as foo]).\n\
 :- use_module(nowhere, [r/2 as append]).\np(X) :- append(X, X).\n",
