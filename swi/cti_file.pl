@@ -32,6 +32,7 @@ module is not proved; what cti says of the pure program is.
 :- use_module(real_builtins, [is_protected/1]).
 :- use_module(real_source).
 :- use_module(reasons).
+:- use_module(trust).
 
 %!  cti_file_modes(+File, -Modes, -Assumptions) is det.
 %!  cti_file_modes(+File, -Modes, -Assumptions, +Options) is det.
@@ -86,10 +87,11 @@ ground_sets(Modes, Sets) :-
 %
 %   Answer is
 %
-%       answer{ file, files, predicates, assumptions, certificates, unread }
+%       answer{ file, files, predicates, assumptions, trusts, certificates, unread }
 %
 %   with the path of File, all paths that were asked for, the predicates of
-%   the file in the order of its lines, what is assumed, and a list of
+%   the file in the order of its lines, what is assumed, what its author trusts
+%   (trust{file, line, predicate, used}), and a list of
 %
 %       certificate{kind, facts, checked}
 %
@@ -123,6 +125,8 @@ ground_sets(Modes, Sets) :-
 %       For all that is asked of cti; 12 by default.
 %     - check(+Boolean)
 %       If `true` (default), certificates are checked by `cti check`.
+%     - trust(+File)
+%       Has more of what is trusted. There may be several.
 %     - keep(+Directory)
 %       Writes the pure program and its certificates there.
 
@@ -178,13 +182,26 @@ is_own_key(Source, Module:PI) :-
 
 with_analysis(File, Known, Goal, Options) :-
     forget_places,
-    read_sources(File, Project),
-    covering_program(Project, Program),
+    read_sources(File, Project0),
+    trusts(Project0, Trusts, Untrusted, Options),
+    Project = Project0.put(trusts, Trusts),
+    covering_program(Project, Program0),
+    discharged(Program0, Project, Trusts, Program, Used),
     setup_call_cleanup(
         work_files(Project.path, Prefix, Options),
-        ( known(Project, Program, Prefix, Known, Options),
+        ( known(Project, Program, Prefix, Known0, Options),
+          Known = Known0.put(_{trusts:Trusts, used_trusts:Used, untrusted:Untrusted}),
           once(Goal) ),
         forget_work_files(Prefix, Options)).
+
+%   Those of the files, and of the files of the options trust(File).
+
+trusts(Project, Trusts, Unread, Options) :-
+    maplist(file_trusts, Project.files, Own, Lists),
+    append(Lists, Unread),
+    findall(Kept, ( member(trust(File), Options), kept_trusts(File, Kept) ), Others),
+    append(Own, OwnTrusts),
+    append([OwnTrusts|Others], Trusts).
 
 known(Project, Program, Prefix, Known, Options) :-
     Project.sources = [Source|_],
@@ -209,9 +226,18 @@ answer(Known, Answer) :-
               _{analysis:Analysis, facts:Facts, checked:Checked} :< Result,
               length(Facts, Count) ),
             Certificates),
-    findall(Place, ( member(Source, Project.sources), member(Place, Source.unread) ), Unread),
+    findall(trust{file:File, line:Line, predicate:PI, used:Used},
+            ( member(Trust, Known.trusts),
+              Trust = trust(File, Line, PI),
+              (   memberchk(Trust, Known.used_trusts)
+              ->  Used = true
+              ;   Used = false
+              ) ),
+            Trusts),
+    findall(Place, ( member(Source, Project.sources), member(Place, Source.unread) ), Unread0),
+    append(Unread0, Known.untrusted, Unread),
     Answer = answer{file:Project.path, files:Project.files, predicates:Predicates, assumptions:Assumptions,
-                    certificates:Certificates, unread:Unread}.
+                    trusts:Trusts, certificates:Certificates, unread:Unread}.
 
 %   work_files(+Path, -Prefix, +Options): what the names of the files for cti
 %   begin with.
