@@ -127,11 +127,17 @@ ground_sets(Modes, Sets) :-
 %       If `true` (default), certificates are checked by `cti check`.
 %     - trust(+File)
 %       Has more of what is trusted. There may be several.
+%     - calls(+Boolean)
+%       If `true`, Answer has calls too: a list of calls(Path, Name, Called), one for
+%       each predicate, where Called is a list of Path-Name. What is called through
+%       a library, as a goal of maplist/3, is among them.
 %     - keep(+Directory)
 %       Writes the pure program and its certificates there.
 
 cti_file_answer(File, Answer, Options) :-
-    with_analysis(File, Known, answer(Known, Answer), Options).
+    with_analysis(File, Known,
+                  ( answer(Known, Answer0), with_calls(Known, Answer0, Answer, Options) ),
+                  Options).
 
 %!  cti_file_ask(+File, +Query, -Reply:dict, -Answer:dict, +Options) is det.
 %
@@ -238,6 +244,60 @@ answer(Known, Answer) :-
     append(Unread0, Known.untrusted, Unread),
     Answer = answer{file:Project.path, files:Project.files, predicates:Predicates, assumptions:Assumptions,
                     trusts:Trusts, certificates:Certificates, unread:Unread}.
+
+with_calls(Known, Answer0, Answer, Options) :-
+    (   option(calls(true), Options)
+    ->  own_calls(Known, Calls),
+        Answer = Answer0.put(calls, Calls)
+    ;   Answer = Answer0
+    ).
+
+own_calls(Known, Calls) :-
+    own_keys(Known.project, Own),
+    findall(Key-(File-Name),
+            ( member(Key-Path, Own),
+              once(( member(Source, Known.project.sources), Source.path == Path )),
+              shown(Key, Source.module, Name),
+              key_place(Key, Source, Known.project.path, File, _, _) ),
+            Pairs),
+    list_to_assoc(Pairs, Names),
+    findall(calls(File, Name, Called),
+            ( member(Key-(File-Name), Pairs),
+              reached(Key, Known.graph, Names, Called) ),
+            Calls).
+
+%   reached(+Key, +Graph, +Names, -Called): those that have Names, and are called
+%   by Key, or by what it calls that has none.
+
+reached(Key, Graph, Names, Called) :-
+    successors(Key, Graph, Successors),
+    empty_assoc(Seen),
+    reached(Successors, Graph, Names, Seen, Called0),
+    sort(Called0, Called).
+
+reached([], _, _, _, []).
+reached([Key|Keys], Graph, Names, Seen, Called) :-
+    (   get_assoc(Key, Seen, _)
+    ->  reached(Keys, Graph, Names, Seen, Called)
+    ;   put_assoc(Key, Seen, seen, Seen1),
+        (   get_assoc(Key, Names, Name)
+        ->  Called = [Name|More], Next = Keys
+        ;   Key = special(Predicate, _), get_assoc(Predicate, Names, Name)
+        ->  Called = [Name|More],
+            successors(Key, Graph, Successors),
+            append(Successors, Keys, Next)
+        ;   Called = More,
+            successors(Key, Graph, Successors),
+            append(Successors, Keys, Next)
+        ),
+        reached(Next, Graph, Names, Seen1, More)
+    ).
+
+successors(Key, Graph, Successors) :-
+    (   get_assoc(Key, Graph, Successors)
+    ->  true
+    ;   Successors = []
+    ).
 
 %   work_files(+Path, -Prefix, +Options): what the names of the files for cti
 %   begin with.
