@@ -96,7 +96,10 @@ calls_into(Caller, Component, Graph) :-
     !.
 
 stands_alone(Graph, Components, _-Component) :-
-    \+ ( member(Id, Component), get_assoc(Id, Graph, Callees), member(Callee, Callees), \+ memberchk(Callee, Component) ),
+    \+ ( member(Id, Component),
+         get_assoc(Id, Graph, Callees),
+         member(Callee, Callees),
+         \+ memberchk(Callee, Component) ),
     \+ ( member(Other0, Components),
          sort(Other0, Other),
          Other \== Component,

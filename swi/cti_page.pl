@@ -88,9 +88,9 @@ header(Title, Predicates, Answer) :-
     ->  format("<a class=\"chip\" href=\"#assumptions\"><b>~d</b> assumed</a>~n", [Assumptions])
     ;   true
     ),
-    format("</p>~n<p class=\"lead\">Each query that meets a mode ends, with all of its answers: <code>b</code> stands for a ground \
-argument, <code>l</code> for a list whose length is known, with any elements, or another term that is no variable, and \
-<code>f</code> for anything.</p>~n</header>~n").
+    format("</p>~n<p class=\"lead\">Each query that meets a mode ends, with all of its answers: <code>b</code> stands for a \
+ground argument, <code>l</code> for a list whose length is known, with any elements, or another term that is no variable, \
+and <code>f</code> for anything.</p>~n</header>~n").
 
 status_count(Status, Predicates, Count) :-
     findall(Id, ( member(Id-Predicate, Predicates), status(Predicate, Status) ), Ids),
@@ -264,7 +264,9 @@ file_marks(Path, Predicates, Answer, Heads, Culprits, Assumed) :-
               member(place(Path, Line, Column, Text), Predicate.reason_places) ),
             Culprits0),
     sort(Culprits0, Culprits),
-    findall(Line-Assumption, ( member(Assumption, Answer.assumptions), _{file:Path, line:Line} :< Assumption ), Assumed0),
+    findall(Line-Assumption,
+            ( member(Assumption, Answer.assumptions), _{file:Path, line:Line} :< Assumption ),
+            Assumed0),
     keysort(Assumed0, Assumed).
 
 lines([], _, _).
@@ -280,7 +282,8 @@ lines([Spans|Lines], Line, Page0) :-
     write_spans(Spans, Underlines),
     forall(member(Assumption, LineAssumed),
            ( escaped(Assumption.text, Tip),
-             format("<a class=\"assumed\" href=\"#a~d\" title=\"~s\">~d</a>", [Assumption.number, Tip, Assumption.number]) )),
+             Number1 = Assumption.number,
+             format("<a class=\"assumed\" href=\"#a~d\" title=\"~s\">~d</a>", [Number1, Tip, Number1]) )),
     format("</td></tr>~n"),
     forall(member(Culprit, LineCulprits), culprit_row(Culprit)),
     Next is Line + 1,
@@ -441,8 +444,8 @@ trust(Trust, Answer) :-
 
 footer :-
     report_version(Version),
-    format("<footer>Always assumed: no cyclic terms, and no attributed variables in the query. Not proved: that the pure \
-program covers the file. Made by cti-file ~w.</footer>~n", [Version]).
+    format("<footer>Always assumed: no cyclic terms, and no attributed variables in the query. Not proved: that the \
+pure program covers the file. Made by cti-file ~w.</footer>~n", [Version]).
 
 
 %   Text in HTML.
@@ -459,11 +462,11 @@ term_escaped(Term, Escaped) :-
 
 style("\
 :root { color-scheme: light dark; --back: #fafaf8; --panel: #ffffff; --line: #e2e3df; --text: #1f2328; --soft: #6a7078;
-  --link: #2157a8; --ok: #14703f; --ok-back: #e0f2e6; --if: #7d5200; --if-back: #fbefcf; --none: #b02a1f; --none-back: #fbe5e2;
-  --comment: #6b7d6f; --string: #8a4b12; --variable: #5b3c99; --number: #1c6b82; --edge: #8a9099; }
+  --link: #2157a8; --ok: #14703f; --ok-back: #e0f2e6; --if: #7d5200; --if-back: #fbefcf; --none: #b02a1f;
+  --none-back: #fbe5e2; --comment: #6b7d6f; --string: #8a4b12; --variable: #5b3c99; --number: #1c6b82; --edge: #8a9099; }
 @media (prefers-color-scheme: dark) {
-  :root { --back: #14161a; --panel: #1b1e23; --line: #2d3138; --text: #d9dce1; --soft: #949aa3; --link: #8ab4f8; --ok: #6fd39b;
-    --ok-back: #17301f; --if: #e6b84f; --if-back: #33290f; --none: #ff938a; --none-back: #3b1c1a; --comment: #86998b;
+  :root { --back: #14161a; --panel: #1b1e23; --line: #2d3138; --text: #d9dce1; --soft: #949aa3; --link: #8ab4f8;
+    --ok: #6fd39b; --ok-back: #17301f; --if: #e6b84f; --if-back: #33290f; --none: #ff938a; --none-back: #3b1c1a; --comment: #86998b;
     --string: #e0a26b; --variable: #c0a6f2; --number: #79c3d8; --edge: #767d87; }
 }
 * { box-sizing: border-box; }
@@ -473,10 +476,12 @@ h1 { margin: 0 0 8px; font-size: 24px; overflow-wrap: anywhere; }
 h2 { margin: 32px 0 10px; font-size: 17px; overflow-wrap: anywhere; }
 a { color: var(--link); text-decoration: none; }
 a:hover { text-decoration: underline; }
-code, .code, .mark, .name, svg text { font-family: ui-monospace, 'DejaVu Sans Mono', 'Liberation Mono', Menlo, Consolas, monospace; }
+code, .code, .mark, .name, svg text {
+  font-family: ui-monospace, 'DejaVu Sans Mono', 'Liberation Mono', Menlo, Consolas, monospace; }
 code { font-size: 13px; }
 .counts { display: flex; flex-wrap: wrap; gap: 8px; margin: 0 0 10px; }
-.chip { padding: 2px 10px; border: 1px solid var(--line); border-radius: 12px; background: var(--panel); font-size: 14px; }
+.chip { padding: 2px 10px; border: 1px solid var(--line); border-radius: 12px;
+  background: var(--panel); font-size: 14px; }
 .ok.chip { color: var(--ok); background: var(--ok-back); border-color: transparent; }
 .if.chip { color: var(--if); background: var(--if-back); border-color: transparent; }
 .none.chip { color: var(--none); background: var(--none-back); border-color: transparent; }
@@ -484,7 +489,8 @@ code { font-size: 13px; }
 .lead { margin: 0; max-width: 80ch; }
 .small { margin: 6px 0 0; }
 .scroll { overflow-x: auto; background: var(--panel); border: 1px solid var(--line); border-radius: 8px; }
-.mark { display: inline-block; padding: 0 7px; margin: 1px 0; border-radius: 5px; font-size: 13px; white-space: nowrap; }
+.mark { display: inline-block; padding: 0 7px; margin: 1px 0; border-radius: 5px;
+  font-size: 13px; white-space: nowrap; }
 .mark.ok { color: var(--ok); background: var(--ok-back); }
 .mark.if { color: var(--if); background: var(--if-back); }
 .mark.none { color: var(--none); background: var(--none-back); }
@@ -499,12 +505,15 @@ table { border-collapse: collapse; width: 100%; }
 .predicates .name { width: 1%; white-space: nowrap; font-size: 13px; line-height: 24px; }
 .code { font-size: 13px; line-height: 20px; }
 .code td { padding: 0; }
-.code .number { width: 1%; padding: 0 10px 0 12px; text-align: right; user-select: none; border-right: 1px solid var(--line); }
+.code .number { width: 1%; padding: 0 10px 0 12px; text-align: right; user-select: none;
+  border-right: 1px solid var(--line); }
 .code .number a { color: var(--soft); }
 .code .text { padding: 0 12px; white-space: pre; }
 .code .head td:first-child, .code .why td:first-child { border-right: 1px solid var(--line); }
-.code .head td { padding: 6px 12px 1px; font-family: system-ui, -apple-system, 'Segoe UI', 'Liberation Sans', sans-serif; }
-.code .why span { color: var(--none); font: 13px/20px system-ui, -apple-system, 'Segoe UI', 'Liberation Sans', sans-serif; }
+.code .head td { padding: 6px 12px 1px;
+  font-family: system-ui, -apple-system, 'Segoe UI', 'Liberation Sans', sans-serif; }
+.code .why span { color: var(--none);
+  font: 13px/20px system-ui, -apple-system, 'Segoe UI', 'Liberation Sans', sans-serif; }
 .code .why span::before { content: '\\2191\\00a0'; }
 .code tr:target td, li:target { background: var(--if-back); }
 .code i { font-style: normal; }

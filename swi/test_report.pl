@@ -43,7 +43,8 @@ write_file(Name, Text) :-
 run(Script, Words, Out, Err, Status) :-
     scripts(Directory),
     directory_file_path(Directory, Script, Path),
-    process_create(Path, Words, [stdout(pipe(O, [encoding(utf8)])), stderr(pipe(E, [encoding(utf8)])), process(Process)]),
+    process_create(Path, Words,
+                   [ stdout(pipe(O, [encoding(utf8)])), stderr(pipe(E, [encoding(utf8)])), process(Process) ]),
     call_cleanup(read_string(O, _, Out), close(O)),
     call_cleanup(read_string(E, _, Err), close(E)),
     process_wait(Process, exit(Status)).
@@ -79,7 +80,8 @@ has_line(Text, Line) :-
 
 %   app/3 ends by its first or third list; q/1 never does; r/1 calls any goal.
 
-program("a.pl"-":- module(a, [app/3, q/1]).\napp([], L, L).\napp([H|T], L, [H|R]) :-\n    app(T, L, R).\nq(X) :-\n    q(X).\nr(X) :- call(X).\n").
+program("a.pl"-":- module(a, [app/3, q/1]).\napp([], L, L).\napp([H|T], L, [H|R]) :-\n    app(T, L, R).\n\
+q(X) :-\n    q(X).\nr(X) :- call(X).\n").
 
 
 :- begin_tests(facts).
@@ -390,12 +392,15 @@ test(in_sarif, Rules == ["lost-mode", "no-mode"]) :-
 :- begin_tests(hold).
 
 test(pure, Status-Out == 10-"lost(p/1,[[]]).\n") :-
-    with_files(["a.pl"-"p([]).\np([_|T]) :- p(T).\n", "m"-"terminates(p/1,[[],[1]]).\n"], run('cti-hold', ['a.pl', m], Out, _, Status)).
+    with_files(["a.pl"-"p([]).\np([_|T]) :- p(T).\n", "m"-"terminates(p/1,[[],[1]]).\n"],
+               run('cti-hold', ['a.pl', m], Out, _, Status)).
 test(pure_holds, Status == 0) :-
-    with_files(["a.pl"-"p([]).\np([_|T]) :- p(T).\n", "m"-"terminates(p/1,[[1]]).\n"], run('cti-hold', ['a.pl', m], _, _, Status)).
+    with_files(["a.pl"-"p([]).\np([_|T]) :- p(T).\n", "m"-"terminates(p/1,[[1]]).\n"],
+               run('cti-hold', ['a.pl', m], _, _, Status)).
 test(real_file_of_facts, Status-Out == 0-"") :-
     with_files(["a.pl"-"p([]) :- !.\np([_|T]) :- p(T).\n"],
-               ( run(['--facts', 'a.pl'], Facts, 0), write_file(m, Facts), run('cti-hold', ['a.pl', m], Out, _, Status) )).
+               ( run(['--facts', 'a.pl'], Facts, 0), write_file(m, Facts),
+                 run('cti-hold', ['a.pl', m], Out, _, Status) )).
 test(real_file_that_lost, Status-Out == 10-"lost(p/1,[[1]]).\n") :-
     with_files(["a.pl"-"p([]) :- !.\np([_|T]) :- p(T).\n"],
                ( run(['--facts', 'a.pl'], Facts, 0), write_file(m, Facts),
@@ -403,7 +408,8 @@ test(real_file_that_lost, Status-Out == 10-"lost(p/1,[[1]]).\n") :-
                  run('cti-hold', ['a.pl', m], Out, Err, Status) )),
     sub_string(Err, 0, _, _, "a.pl:1:1: error: p/1: ").
 test(real_file_of_terminates, Status == 0) :-
-    with_files(["a.pl"-"p([]) :- !.\np([_|T]) :- p(T).\n", "m"-"terminates(p/1,[[1]]).\n"], run('cti-hold', ['--real', 'a.pl', m], _, _, Status)).
+    with_files(["a.pl"-"p([]) :- !.\np([_|T]) :- p(T).\n", "m"-"terminates(p/1,[[1]]).\n"],
+               run('cti-hold', ['--real', 'a.pl', m], _, _, Status)).
 test(words, Status == 2) :-
     with_files([], run('cti-hold', ['a.pl'], _, _, Status)).
 
@@ -442,7 +448,8 @@ test(another_module, Trusts == [(n:q/1)-not_needed]) :-
 test(several, Numbers-Trusts == []-[q/1-used, r/3-used]) :-
     trusted(":- trust terminates([q/1, r//1]).\np(X) :- q(X), phrase(r(X), []).\n", p/1, Numbers, Trusts).
 test(library, Numbers == []) :-
-    trusted(":- use_module(library(clpfd)).\n:- trust terminates([clpfd:labeling/2, clpfd:(in)/2]).\np(X) :- X in 1..3, labeling([], [X]).\n",
+    trusted(":- use_module(library(clpfd)).\n:- trust terminates([clpfd:labeling/2, clpfd:(in)/2]).\n\
+p(X) :- X in 1..3, labeling([], [X]).\n",
             p/1, Numbers, _).
 test(own_predicate_is_not_looked_at_where_it_is_called, Sets == [[]]) :-
     facts(["a.pl"-":- trust terminates(q/1).\np(X) :- q(X).\nq(X) :- r(X).\nr(X) :- r(X).\n"], ['a.pl'], Facts),
