@@ -187,4 +187,5 @@ assumption_text(include(Spec), Text) :-
     format(string(Text), "the included file ~q was not found: it adds no clauses", [Spec]).
 assumption_text(inherits, "what is imported here has no name that the file calls").
 assumption_text(loads(_), "what is loaded is not known: it adds no clauses").
-assumption_text(asserts, "a clause that it adds is not known").
+assumption_text(asserts, "a clause that it adds is not known: it is a fact").
+assumption_text(left_out, "the program that covers the file is too large to have it: it ends").

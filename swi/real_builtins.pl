@@ -538,14 +538,15 @@ is_hook(Module:PI) :-
 
 %!  is_read_library(?Module) is nondet.
 %
-%   Modules of SWI-Prolog's library whose clauses are read as the file's are.
+%   Modules of SWI-Prolog's library that are read even where something is
+%   assumed of them, since they call the goals of the file.
 
 is_read_library(lists).
 is_read_library(apply).
 is_read_library(pairs).
 is_read_library(assoc).
 is_read_library(ordsets).
-is_read_library(option).
+is_read_library(swi_option).
 is_read_library(occurs).
 is_read_library(ugraphs).
 is_read_library(dcg_basics).
