@@ -48,14 +48,25 @@ covering_program(Project, Program) :-
     ->  Keys = [directives|Keys2]
     ;   Keys = Keys2
     ),
-    empty_assoc(Seen),
-    cover(Keys, Project, Seen, 0, Program0, []),
+    covered_keys(Keys, Project, Program0),
     with_cyclic(Program0, Program1),
     without_doubtful(Project, Program1, Program).
 
 source_keys(Source, Keys) :-
     assoc_to_keys(Source.clauses, Keys0),
     append([Keys0, Source.dynamic, Source.multifile], Keys).
+
+%   Where get_assoc/3 is called, it is done again with terms as that needs them.
+
+covered_keys(Keys, Project, Program) :-
+    empty_assoc(Seen),
+    start_goals(names),
+    cover(Keys, Project, Seen, 0, Program0, []),
+    (   memberchk(predicate(prelude(get_assoc/3), _, _), Program0)
+    ->  start_goals(arities),
+        cover(Keys, Project, Seen, 0, Program, [])
+    ;   Program = Program0
+    ).
 
 %   cover(+Keys, +Project, +Seen, +Count, -Program, ?Rest): Count clauses of
 %   files that were not asked for are there. Beyond most_other_clauses no more
