@@ -108,7 +108,7 @@ clauses_text(Clauses, Known, Text, Places) :-
 %   one too, by the clauses of these lines, and else `pure`. That is tried for
 %   some queries.
 
-most_queries(24).
+most_queries(60).
 most_clauses(12).
 
 looping(Key, Pattern, Known, Loop) :-
@@ -162,35 +162,45 @@ candidate(l, _, _, _, [_, _]).
 candidate(l, _, _, _, []).
 candidate(b, I, Clauses, Constant, Arg) :-
     (   Arg = Constant
-    ;   member(clause(_, Head, _), Clauses),
-        arg(I, Head, Arg0),
-        copy_term(Arg0, Arg),
-        nonvar(Arg),
-        term_variables(Arg, Variables),
-        maplist(=(Constant), Variables)
+    ;   filled(I, Clauses, 1, Constant, Arg)
+    ;   filled(I, Clauses, 2, Constant, Arg)
     ).
 
-%   A constant that stands as an argument of a fact or rule of the file.
+%   filled(+I, +Clauses, +Depth, +Constant, -Arg): an argument of a head, with
+%   itself in the place of its variables, so often, and then the constant.
+
+filled(I, Clauses, Depth, Constant, Arg) :-
+    member(clause(_, Head, _), Clauses),
+    arg(I, Head, Arg0),
+    nonvar(Arg0),
+    copy_term(Arg0, Arg),
+    term_variables(Arg, Variables),
+    Variables \== [],
+    (   Depth =:= 1
+    ->  Value = Constant
+    ;   copy_term(Arg0, Value),
+        term_variables(Value, Inner),
+        maplist(=(Constant), Inner)
+    ),
+    maplist(=(Value), Variables).
+
+%   Some constants that stand as arguments in heads of the file.
 
 file_constant(Source, Constant) :-
-    (   findall(C,
-                ( assoc_to_values(Source.clauses, Lists),
-                  member(Clauses, Lists),
-                  member(clause(_, Head, _), Clauses),
-                  compound(Head),
-                  arg(_, Head, C),
-                  atomic(C),
-                  C \== [] ),
-                Constants0),
-        sort(Constants0, Constants),
-        length(First, 4),
-        (   append(First, _, Constants)
-        ->  true
-        ;   First = Constants
-        ),
-        First \== []
-    ->  member(Constant, First)
-    ;   Constant = a
+    findall(C,
+            ( assoc_to_values(Source.clauses, Lists),
+              member(Clauses, Lists),
+              member(clause(_, Head, _), Clauses),
+              compound(Head),
+              arg(_, Head, C),
+              atomic(C),
+              C \== [] ),
+            Constants0),
+    sort(Constants0, Constants),
+    (   Constants == []
+    ->  Constant = a
+    ;   nth1(I, Constants, Constant),
+        I =< 4
     ).
 
 

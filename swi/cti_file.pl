@@ -193,8 +193,8 @@ known(Source, Program, Prefix, Known, Options) :-
                    kinds:Kinds, found:Found},
     reasoning(Known0, Reasoning),
     Known1 = Known0.put(reasoning, Reasoning),
-    lacking_calls(Known1, Lacking),
-    Known = Known1.put(lacking, Lacking).
+    wanted_patterns(Known1, Wanted),
+    Known = Known1.put(wanted, Wanted).
 
 answer(Known, Answer) :-
     _{source:Source, found:Found} :< Known,
