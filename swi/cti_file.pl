@@ -2,6 +2,8 @@
           [ cti_file_modes/3,           % +File, -Modes, -Assumptions
             cti_file_modes/4,           % +File, -Modes, -Assumptions, +Options
             cti_file_answer/3,          % +File, -Answer, +Options
+            files_together/2,           % +Files, -Groups
+            files_answer/3,             % +Files, -Answer, +Options
             cti_file_ask/5,             % +File, +Query, -Reply, -Answer, +Options
             print_answer/1,             % +Answer
             print_reply/2,              % +Reply, +Answer
@@ -129,6 +131,21 @@ ground_sets(Modes, Sets) :-
 
 cti_file_answer(File, Answer, Options) :-
     with_analysis(File, Known, answer(Known, Answer), Options).
+
+%!  files_together(+Files, -Groups) is det.
+%
+%   Groups are the lists of Files that are analysed as one: each file by itself.
+
+files_together(Files, Groups) :-
+    findall([File], member(File, Files), Groups).
+
+%!  files_answer(+Files, -Answer:dict, +Options) is det.
+%
+%   The answer, as of cti_file_answer/3, for one of the groups of
+%   files_together/2.
+
+files_answer([File], Answer, Options) :-
+    cti_file_answer(File, Answer, Options).
 
 %!  cti_file_ask(+File, +Query, -Reply:dict, -Answer:dict, +Options) is det.
 %
