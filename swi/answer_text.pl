@@ -25,7 +25,37 @@ print_answer(Answer) :-
         forall(member(Assumption, Answer.assumptions), print_assumption(Assumption))
     ),
     format("~nAlways assumed: no cyclic terms, and no attributed variables in the query. Not proved: that the pure program~n\
-covers the file. See docs/real-files.md.~n").
+covers the file. See docs/real-files.md.~n"),
+    print_unchecked(Answer),
+    print_unanswered(Answer.unanswered).
+
+print_unanswered([]) :- !.
+print_unanswered(Analyses) :-
+    findall(Text, ( member(Analysis, Analyses), analysis_text(Analysis, Text) ), Texts),
+    atomic_list_concat(Texts, ' and ', List),
+    format("There may be more modes: cti gave no answer in time by ~w (--timeout SECONDS).~n", [List]).
+
+analysis_text(term_size, 'the size of terms') :- !.
+analysis_text(list_size, 'the size of lists') :- !.
+analysis_text(Analysis, Text) :-
+    atomic_list_concat(Words, '_', Analysis),
+    atomic_list_concat(Words, ' ', Text).
+
+%   No command reads a certificate of lists of mappings.
+
+print_unchecked(Answer) :-
+    (   member(certificate{kind:term_size, facts:_, checked:false}, Answer.certificates)
+    ->  format("No certificate was checked.~n")
+    ;   findall(Name,
+                ( member(Predicate, Answer.predicates), _{name:Name, checked:false} :< Predicate ),
+                Names),
+        Names \== []
+    ->  findall(Text, ( member(Name, Names), format(atom(Text), "~q", [Name]) ), Texts),
+        atomic_list_concat(Texts, ', ', List),
+        format("Only lists of mappings show modes of ~w: their certificate is not checked, since no command reads it.~n",
+               [List])
+    ;   true
+    ).
 
 %!  print_reply(+Reply:dict, +Answer:dict) is det.
 %

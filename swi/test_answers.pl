@@ -492,7 +492,10 @@ test(some_files, Status == 5) :-
     with_file("p(a).\n", A,
               with_file("q(b.\nr(c).\n", B,
                         run([A, B], Status, Output, _))),
+    format(string(Headings), "~n~w~n~n1 ", [A]),
+    has_text(Output, Headings),
     has_text(Output, "p/1"),
+    has_text(Output, B),
     has_text(Output, "r/1").
 test(status_of_a_question, Statuses == [0, 1, 7]) :-
     text(append, Text),
@@ -556,6 +559,7 @@ test(time_for_the_first_question_alone, Modes == [[1], [3]]) :-
     setup_call_cleanup(setenv('CTI', Program),
                        with_file(Text, File, cti_file_answer(File, Answer, [timeout(2)])),
                        ( setenv('CTI', Cti0), delete_file(Program) )),
+    Answer.unanswered == [list_size, lists_of_mappings],
     predicate_of(Answer, app/3, Predicate),
     findall(Arguments, member(mode{arguments:Arguments, by:ground}, Predicate.modes), Modes).
 
