@@ -162,6 +162,7 @@ candidate(l, _, _, _, [_, _]).
 candidate(l, _, _, _, []).
 candidate(b, I, Clauses, Constant, Arg) :-
     (   Arg = Constant
+    ;   Arg = []
     ;   filled(I, Clauses, 1, Constant, Arg)
     ;   filled(I, Clauses, 2, Constant, Arg)
     ).

@@ -563,6 +563,90 @@ test(time_for_the_first_question_alone, Modes == [[1], [3]]) :-
     predicate_of(Answer, app/3, Predicate),
     findall(Arguments, member(mode{arguments:Arguments, by:ground}, Predicate.modes), Modes).
 
+%   What docs/real-files.md shows is what is said.
+
+test(page, [forall(page_command(Directory, Words, Expected)), cleanup(delete_directory_and_contents(Directory)), true]) :-
+    getenv('CTI', Cti0),
+    absolute_file_name(Cti0, Cti),
+    run(Words, [environment(['CTI'=Cti]), cwd(Directory)], _, Output, _),
+    split_string(Output, "\n", "", Lines),
+    starts_with(Expected, Lines).
+
+starts_with([".."], _) :- !.
+starts_with([], Lines) :-
+    !,
+    exclude(==(""), Lines, []).
+starts_with([Line|Expected], [Line|Lines]) :-
+    starts_with(Expected, Lines).
+
+%   page_command(-Directory, -Words, -Expected): a command of the page, in a
+%   directory that has its files.
+
+page_command(Directory, Words, Expected) :-
+    page_blocks(Blocks),
+    findall(Command, ( member(Block, Blocks), commands(Block, Commands), member(Command, Commands) ), All),
+    All = [_, _, _, _|_],
+    member(command(Words, Expected), All),
+    tmp_file(page, Directory),
+    make_directory(Directory),
+    forall(( member(Block, Blocks), page_file(Block, Name, Text) ),
+           ( directory_file_path(Directory, Name, File),
+             setup_call_cleanup(open(File, write, Out, [encoding(utf8)]), write(Out, Text), close(Out)) )).
+
+page_blocks(Blocks) :-
+    module_property(cti_file, file(Module)),
+    file_directory_name(Module, Directory),
+    directory_file_path(Directory, '../docs/real-files.md', Page),
+    read_file_to_string(Page, Text, [encoding(utf8)]),
+    split_string(Text, "\n", "", Lines),
+    blocks(Lines, Blocks).
+
+blocks(Lines, Blocks) :-
+    (   append(_, ["```"|Rest], Lines)
+    ->  append(Block, ["```"|After], Rest),
+        !,
+        Blocks = [Block|More],
+        blocks(After, More)
+    ;   Blocks = []
+    ).
+
+%   A text with line numbers, or what `cat` shows.
+
+page_file([First|Lines], Name, Text) :-
+    (   member(Start-Name, [" 1  :- use_module(library(lists))."-'queens.pl', " 1  :- module(calc, "-'calc.pl'])
+    ,   string_concat(Start, _, First)
+    ->  maplist(without_number, [First|Lines], Plain)
+    ;   string_concat("$ cat ", NameText, First),
+        atom_string(Name, NameText),
+        append(Plain0, [Next|_], Lines),
+        string_concat("$ ", _, Next)
+    ->  append(Plain0, [""], Plain)
+    ),
+    atomic_list_concat(Plain, '\n', Text).
+
+without_number(Line, Plain) :-
+    (   sub_string(Line, 4, _, 0, Plain0)
+    ->  Plain = Plain0
+    ;   Plain = ""
+    ).
+
+commands(Lines, Commands) :-
+    (   append(_, [Line|Rest], Lines),
+        string_concat("$ cti-file ", WordsText, Line)
+    ->  (   append(Output, [Next|Others], Rest), string_concat("$ ", _, Next)
+        ->  true
+        ;   Output = Rest, Next = "", Others = []
+        ),
+        words_of(WordsText, Words),
+        Commands = [command(Words, Output)|More],
+        commands([Next|Others], More)
+    ;   Commands = []
+    ).
+
+words_of(Text, Words) :-
+    split_string(Text, " ", "'", Parts),
+    maplist([Part, Word]>>atom_string(Word, Part), Parts, Words).
+
 %   A reader that goes away.
 
 test(closed_pipe, Messages == "") :-
