@@ -18,7 +18,7 @@
 %   Prints the answer for people, as the script cti-file does.
 
 print_answer(Answer) :-
-    forall(member(Predicate, Answer.predicates), print_predicate(Predicate)),
+    forall(member(Predicate, Answer.predicates), print_predicate(Predicate, Answer.files)),
     (   Answer.assumptions == []
     ->  true
     ;   format("~nassumed:~n"),
@@ -75,9 +75,15 @@ print_reply(Reply, Answer) :-
         forall(member(Assumption, Assumptions), print_assumption(Assumption))
     ).
 
-print_predicate(Predicate) :-
-    _{line:Line, name:Name, modes:Modes, reason_text:Reason, assumptions:Numbers, not_shown:NotShown} :< Predicate,
-    format("~w~t~14|~q~t~48|", [Line, Name]),
+%   Where several files were asked for, a predicate is said with its file.
+
+print_predicate(Predicate, Files) :-
+    _{file:File, line:Line, name:Name, modes:Modes, reason_text:Reason, assumptions:Numbers, not_shown:NotShown} :< Predicate,
+    (   Files = [_]
+    ->  format("~w~t~14|~q~t~48|", [Line, Name])
+    ;   file_shown(File, Shown),
+        format("~w:~w~t~24|~q~t~58|", [Shown, Line, Name])
+    ),
     (   Modes == []
     ->  format(" no mode: ~s", [Reason])
     ;   modes_text(Modes, Text),
@@ -173,8 +179,26 @@ assumption_text(risk(imports, PI), Text) :-
     format(string(Text), "~q imports from another module: nothing that the file calls", [PI]).
 assumption_text(risk(runs, PI), Text) :-
     format(string(Text), "~q may run goals that are not known, or wait: it ends", [PI]).
+assumption_text(risk(grows, PI), Text) :-
+    format(string(Text), "~q goes through a table: what it goes through does not grow meanwhile", [PI]).
+assumption_text(directive(Doubt), Text) :-
+    assumption_text(Doubt, Text0),
+    format(string(Text), "in this directive, ~s, and so does what it leaves behind", [Text0]).
+assumption_text(lasting(What), Text) :-
+    format(string(Text), "~q may have goals run, or other clauses called, later: these end", [What]).
+assumption_text(hook(PI), Text) :-
+    format(string(Text), "~q is called by the system: it ends whenever it is called", [PI]).
+assumption_text(libraries, "it says where libraries are found: those that the file uses are SWI-Prolog's").
+assumption_text(halts, "where the system halts, it runs the goals of at_halt/1: these end").
+assumption_text(quasi, "it may read a quasi quotation: the goal that reads its text ends").
+assumption_text(kept(PI), Text) :-
+    format(string(Text), "no goal of the file waits for a variable of what ~q gives, or it ends", [PI]).
+assumption_text(options, "the options that are not known hold no goal, or one that ends").
+assumption_text(cyclic, "its unifications succeed with a cyclic term only: it is not reached, or ends with it").
+assumption_text(flag(Flag), Text) :-
+    format(string(Text), "the flag ~q is set: the file runs as it does without", [Flag]).
 assumption_text(bound, "the upper bound of between/3 is not inf").
-assumption_text(text, "the text that is formatted is not known: it has no ~@").
+assumption_text(text, "the text that is formatted is not known: it has no ~@ and no ~W").
 assumption_text(letter, "letters of format/2 that the file defines, if the text has them, run goals that end").
 assumption_text(function, "the file's own function in arithmetic ends").
 assumption_text(rewritten, "the file rewrites this when it is loaded: what comes of it ends as this does").

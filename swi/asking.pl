@@ -93,7 +93,7 @@ reply_of_loop(Loop, Key, Pattern, Known, Predicate, reply{answer:unknown, text:T
 clauses_text(Clauses, Known, Text, Places) :-
     sort(Clauses, Distinct),
     findall(place(File, Line, Column, "this clause comes again and again"),
-            ( member(Place, Distinct), place_of_line(Place, Known.source.path, File, Line, Column) ),
+            ( member(Place, Distinct), place_of_line(Place, Known.project.path, File, Line, Column) ),
             Places),
     findall(Line, member(place(_, Line, _, _), Places), Lines),
     atomic_list_concat(Lines, ', ', LinesText),
@@ -323,8 +323,8 @@ lacking_call(Key, Pattern, Reasoning, Text, Places) :-
 %!  lacking_calls(+Known:dict, -Lacking) is det.
 %
 %   Lacking has Callee-call(Pattern, Path, Line, Column) for the calls in clauses
-%   of predicates without modes that none of the callee's modes meets, even if
-%   all arguments of the clause's head are ground.
+%   of the files, of predicates without modes, that none of the callee's modes
+%   meets, even if all arguments of the clause's head are ground.
 
 lacking_calls(Known, Lacking) :-
     Reasoning = Known.reasoning,
@@ -335,7 +335,8 @@ lacking_calls(Known, Lacking) :-
               get_assoc(Key, Reasoning.clauses, Clauses),
               get_assoc(Key, Reasoning.components, Component),
               member(Clause, Clauses),
-              lacking_in(Key, Clause, Component, Reasoning, Callee, Pattern, Path, Line, Column) ),
+              lacking_in(Key, Clause, Component, Reasoning, Callee, Pattern, Path, Line, Column),
+              memberchk(Path, Known.project.files) ),
             Lacking).
 
 lacking_in(Key, clause(Args, Goals, Place), Component, Reasoning, Callee, Pattern, Path, Line, Column) :-

@@ -2,8 +2,6 @@
           [ cti_file_modes/3,           % +File, -Modes, -Assumptions
             cti_file_modes/4,           % +File, -Modes, -Assumptions, +Options
             cti_file_answer/3,          % +File, -Answer, +Options
-            files_together/2,           % +Files, -Groups
-            files_answer/3,             % +Files, -Answer, +Options
             cti_file_ask/5,             % +File, +Query, -Reply, -Answer, +Options
             print_answer/1,             % +Answer
             print_reply/2,              % +Reply, +Answer
@@ -32,7 +30,6 @@ module is not proved; what cti says of the pure program is.
 :- use_module(places).
 :- use_module(pure_program).
 :- use_module(real_builtins, [is_protected/1]).
-:- use_module(real_goals, [source_of/3]).
 :- use_module(real_source).
 :- use_module(reasons).
 
@@ -134,21 +131,6 @@ ground_sets(Modes, Sets) :-
 cti_file_answer(File, Answer, Options) :-
     with_analysis(File, Known, answer(Known, Answer), Options).
 
-%!  files_together(+Files, -Groups) is det.
-%
-%   Groups are the lists of Files that are analysed as one: each file by itself.
-
-files_together(Files, Groups) :-
-    findall([File], member(File, Files), Groups).
-
-%!  files_answer(+Files, -Answer:dict, +Options) is det.
-%
-%   The answer, as of cti_file_answer/3, for one of the groups of
-%   files_together/2.
-
-files_answer([File], Answer, Options) :-
-    cti_file_answer(File, Answer, Options).
-
 %!  cti_file_ask(+File, +Query, -Reply:dict, -Answer:dict, +Options) is det.
 %
 %   Query is text as `app(b,f,f)`, with `b` for a ground argument, `l` for a
@@ -171,20 +153,25 @@ asked(Query, Known, Answer, Reply) :-
     ->  true
     ;   throw(error(no_pattern(Query), _))
     ),
-    (   member(Predicate, Answer.predicates),
-        asked_for(Predicate.name, Known.source.module, Module, PI, Key)
+    (   member(Source, Known.project.sources),
+        is_own_key(Source, Module:PI),
+        shown(Module:PI, Source.module, Name),
+        member(Predicate, Answer.predicates),
+        Predicate.name == Name
     ->  true
     ;   throw(error(no_predicate(Query), _))
     ),
-    reply(Key, Pattern, Known, Predicate, Reply0),
+    reply(Module:PI, Pattern, Known.put(source, Source), Predicate, Reply0),
     Reply = Reply0.put(_{query:Query, assumptions:Predicate.assumptions}).
 
-asked_for(Name, FileModule, Module, PI, Module:PI) :-
-    (   Name = _:_
-    ->  Name = Module:PI
-    ;   Name = PI,
-        Module = FileModule
-    ).
+%   A query without a module is of the first file that has such a predicate.
+
+is_own_key(Source, Module:PI) :-
+    (   var(Module)
+    ->  Module = Source.module
+    ;   true
+    ),
+    is_defined(Source, Module:PI).
 
 %   with_analysis(+File, -Known, :Goal, +Options): Goal is called with all that
 %   is known of the file, while the files of the work are there.
@@ -193,22 +180,23 @@ asked_for(Name, FileModule, Module, PI, Module:PI) :-
 
 with_analysis(File, Known, Goal, Options) :-
     forget_places,
-    read_source(File, Source),
-    covering_program(Source, Program),
+    read_sources(File, Project),
+    covering_program(Project, Program),
     setup_call_cleanup(
-        work_files(Source.path, Prefix, Options),
-        ( known(Source, Program, Prefix, Known, Options),
+        work_files(Project.path, Prefix, Options),
+        ( known(Project, Program, Prefix, Known, Options),
           once(Goal) ),
         forget_work_files(Prefix, Options)).
 
-known(Source, Program, Prefix, Known, Options) :-
+known(Project, Program, Prefix, Known, Options) :-
+    Project.sources = [Source|_],
     file_name_extension(Prefix, 'pure.pl', PureFile),
     write_program(Program, PureFile, Names),
     program_graph(Program, Graph),
     components(Graph, Components),
     recursion(Components, Graph, Kinds),
     analysed(PureFile, Prefix, Names, Kinds, Found, Options),
-    Known0 = known{source:Source, program:Program, pure_file:PureFile, names:Names, graph:Graph, components:Components,
+    Known0 = known{project:Project, source:Source, program:Program, pure_file:PureFile, names:Names, graph:Graph, components:Components,
                    kinds:Kinds, found:Found},
     reasoning(Known0, Reasoning),
     Known1 = Known0.put(reasoning, Reasoning),
@@ -216,15 +204,16 @@ known(Source, Program, Prefix, Known, Options) :-
     Known = Known1.put(wanted, Wanted).
 
 answer(Known, Answer) :-
-    _{source:Source, found:Found} :< Known,
+    _{project:Project, found:Found} :< Known,
     answer_predicates(Known, Predicates, Assumptions),
     findall(certificate{kind:Analysis, facts:Count, checked:Checked},
             ( member(Result, Found.results),
               _{analysis:Analysis, facts:Facts, checked:Checked} :< Result,
               length(Facts, Count) ),
             Certificates),
-    Answer = answer{file:Source.path, files:[Source.path], predicates:Predicates, assumptions:Assumptions,
-                    certificates:Certificates, unanswered:Found.unanswered, unread:Source.unread}.
+    findall(Place, ( member(Source, Project.sources), member(Place, Source.unread) ), Unread),
+    Answer = answer{file:Project.path, files:Project.files, predicates:Predicates, assumptions:Assumptions,
+                    certificates:Certificates, unanswered:Found.unanswered, unread:Unread}.
 
 %   work_files(+Path, -Prefix, +Options): what the names of the files for cti
 %   begin with.
@@ -249,27 +238,29 @@ forget_work_files(Prefix, Options) :-
 %   What is said of the file.
 
 answer_predicates(Known, Predicates, Assumptions) :-
-    Source = Known.source,
-    own_keys(Source, Own),
-    notes_below(Known.program, Source, Known.components, Known.graph, Below),
+    Project = Known.project,
+    own_keys(Project, Own),
+    notes_below(Known.program, Project, Known.components, Known.graph, Below),
     findall(Note,
-            (   member(Key, Own), get_assoc(Key, Below, Notes), member(Note, Notes)
-            ;   member(doubt(Line, Doubt), Source.doubts), Note = place(file, Line, Doubt)
+            (   member(Key-_, Own), get_assoc(Key, Below, Notes), member(Note, Notes)
+            ;   member(Source, Project.sources), member(doubt(Line, Doubt), Source.doubts), Note = place(file, Line, Doubt)
             ),
             Notes0),
     sort(Notes0, Notes),
-    numbered_notes(Notes, Source, Numbers, Assumptions),
+    numbered_notes(Notes, Project, Numbers, Assumptions),
     findall(Predicate,
-            ( member(Key, Own),
-              own_predicate(Key, Known, Below, Numbers, Predicate) ),
+            ( member(Key-Path, Own),
+              own_predicate(Key, Path, Known, Below, Numbers, Predicate) ),
             Predicates0),
     sorted_by_place(Predicates0, Predicates).
 
-own_predicate(Key, Known, Below, Numbers, Predicate) :-
-    Source = Known.source,
+own_predicate(Key, Path, Known, Below, Numbers, Predicate) :-
+    member(Source, Known.project.sources),
+    Source.path == Path,
+    !,
     Key = _:PI,
     shown(Key, Source.module, Name),
-    key_place(Key, Source, File, Line, Column),
+    key_place(Key, Source, Known.project.path, File, Line, Column),
     (   Key = Source.module:_, memberchk(PI, Source.exports)
     ->  Exported = true
     ;   Exported = false
@@ -307,46 +298,78 @@ sorted_by_place(Predicates, Sorted) :-
 %   Clauses of predicates that no file can define are refused when it is
 %   loaded.
 
-own_keys(Source, Own) :-
-    assoc_to_keys(Source.clauses, Keys),
-    append([Keys, Source.dynamic], All0),
-    exclude(refused(Source), All0, All),
-    sort(All, Own).
+%   own_keys(+Project, -Own): Key-Path, where Path is that of the first source
+%   that has clauses of Key.
+
+own_keys(Project, Own) :-
+    maplist(keys_of_source, Project.sources, Lists),
+    append(Lists, All0),
+    sort(1, @<, All0, Own).
+
+keys_of_source(Source, Pairs) :-
+    assoc_to_keys(Source.clauses, Keys0),
+    append(Keys0, Source.dynamic, Keys1),
+    exclude(refused(Source), Keys1, Keys),
+    findall(Key-Source.path, member(Key, Keys), Pairs).
 
 refused(Source, Module:Name/Arity) :-
     functor(Goal, Name, Arity),
     is_protected(Goal),
     \+ memberchk(Module:Name/Arity, Source.redefined).
 
-%   key_place(+Key, +Source, -File, -Line, -Column): its first clause.
+%   key_place(+Key, +Source, +First, -File, -Line, -Column): its first clause.
 
-key_place(Key, Source, File, Line, Column) :-
+key_place(Key, Source, First, File, Line, Column) :-
     (   source_clauses(Source, Key, [clause(Place, _, _)|_])
     ->  true
-    ;   Place = 0
+    ;   Source.path == First
+    ->  Place = 0
+    ;   Place = Source.path:0
     ),
-    place_of_line(Place, Source.path, File, Line, Column).
+    place_of_line(Place, First, File, Line, Column).
 
 
-%   notes_below(+Program, +Source, +Components, +Graph, -Below): the notes that
+%   notes_below(+Program, +Project, +Components, +Graph, -Below): the notes that
 %   each key relies on, as place(Key, Line, Doubt). Components come callees
-%   first. Doubts of the whole file are everybody's.
+%   first.
 
-notes_below(Program, Source, Components, Graph, Below) :-
+notes_below(Program, Project, Components, Graph, Below) :-
     findall(Key-Places,
             ( member(predicate(Key, _, Notes), Program),
-              findall(place(Named, Line, Doubt),
-                      ( member(note(Line, Doubt), Notes), named_key(Key, Named) ),
-                      Places0),
+              findall(Place, ( member(Note, Notes), place_of_note(Note, Key, Place) ), Places0),
               sort(Places0, Places) ),
             Pairs),
     list_to_assoc(Pairs, Direct),
-    findall(place(file, Line, Doubt), member(doubt(Line, Doubt), Source.doubts), Everywhere0),
-    sort(Everywhere0, Everywhere),
     empty_assoc(Empty),
-    foldl(component_notes(Direct, Everywhere, Graph), Components, Empty, Below).
+    foldl(component_notes(Direct, Graph), Components, Empty, Below0),
+    everybodys_notes(Project, Pairs, Below0, Everywhere),
+    map_assoc(ord_union(Everywhere), Below0, Below).
 
-component_notes(Direct, Everywhere, Graph, Component, Below0, Below) :-
+%   Doubts of what the directives of the files call are everybody's, and so are
+%   those of what a goal of the files leaves behind.
+
+everybodys_notes(Project, Direct, Below, Everywhere) :-
+    (   get_assoc(directives, Below, Notes1)
+    ->  true
+    ;   Notes1 = []
+    ),
+    findall(place(Key, Line, lasting(What)),
+            ( member(_-Places, Direct), member(place(Key, Line, lasting(What)), Places), is_of_roots(Key, Project) ),
+            Notes2),
+    append(Notes1, Notes2, Notes),
+    sort(Notes, Everywhere).
+
+is_of_roots(file, _) :- !.
+is_of_roots(Key, Project) :-
+    member(Source, Project.sources),
+    is_defined(Source, Key),
+    !.
+
+place_of_note(note(Line, file(Doubt)), _, place(file, Line, Doubt)) :- !.
+place_of_note(note(Line, Doubt), Key, place(Named, Line, Doubt)) :-
+    named_key(Key, Named).
+
+component_notes(Direct, Graph, Component, Below0, Below) :-
     findall(Notes,
             ( member(Key, Component),
               (   get_assoc(Key, Direct, Notes)
@@ -355,40 +378,39 @@ component_notes(Direct, Everywhere, Graph, Component, Below0, Below) :-
                   get_assoc(Callee, Below0, Notes)
               ) ),
             Lists),
-    ord_union([Everywhere|Lists], All),
+    ord_union(Lists, All),
     with_value(Component, All, Below0, Below).
 
-%   numbered_notes(+Notes, +Source, -Numbers, -Assumptions): in the order of
-%   lines, those of the file first. Numbers has each note's number.
+%   numbered_notes(+Notes, +Project, -Numbers, -Assumptions): in the order of
+%   lines, those of the files that were asked for first. Numbers has each note's
+%   number.
 
-numbered_notes(Notes, Source, Numbers, Assumptions) :-
+numbered_notes(Notes, Project, Numbers, Assumptions) :-
     findall(order(Elsewhere, File, Line)-Note,
             ( member(Note, Notes),
-              note_place(Note, Source, File, Line),
-              (   File == Source.path
-              ->  Elsewhere = 0
-              ;   Elsewhere = 1
+              Note = place(_, Place, _),
+              place_of_line(Place, Project.path, File, Line, _),
+              (   nth1(Elsewhere, Project.files, File)
+              ->  true
+              ;   Elsewhere = elsewhere
               ) ),
             Pairs0),
     keysort(Pairs0, Pairs),
-    numbered_notes(Pairs, 1, Source, NumberPairs, Assumptions),
+    numbered_notes(Pairs, 1, Project, NumberPairs, Assumptions),
     list_to_assoc(NumberPairs, Numbers).
 
 numbered_notes([], _, _, [], []).
-numbered_notes([order(_, File, Line)-Note|Pairs], Number, Source, [Note-Number|Numbers], [Assumption|Assumptions]) :-
+numbered_notes([order(_, File, Line)-Note|Pairs], Number, Project, [Note-Number|Numbers], [Assumption|Assumptions]) :-
     Note = place(Key, _, Doubt),
-    shown(Key, Source.module, Shown),
+    (   member(Source, Project.sources),
+        is_defined(Source, Key)
+    ->  shown(Key, Source.module, Shown)
+    ;   Shown = Key
+    ),
     assumption_text(Doubt, Text),
     Assumption = assumption{number:Number, file:File, line:Line, predicate:Shown, doubt:Doubt, text:Text},
     Next is Number + 1,
-    numbered_notes(Pairs, Next, Source, Numbers, Assumptions).
-
-note_place(place(Key, Place, _), Source, File, Line) :-
-    (   Key = _:_, source_of(Source, Key, KeySource)
-    ->  Path = KeySource.path
-    ;   Path = Source.path
-    ),
-    place_of_line(Place, Path, File, Line, _).
+    numbered_notes(Pairs, Next, Project, Numbers, Assumptions).
 
 
 %   Which predicates are recursive, or call one that is.

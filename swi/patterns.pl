@@ -23,10 +23,13 @@ gives, or by which the file itself calls it.
 %   comment(Path, Line), or call(Path, Line, Column).
 
 wanted_patterns(Known, Wanted) :-
-    _{path:Path, module:Module} :< Known.source,
-    comment_patterns(Path, Comments),
     lacking_calls(Known, Lacking),
-    findall((Module:PI)-wanted(Pattern, comment(Path, Line)), member(PI-pattern(Pattern, Line), Comments), Pairs0),
+    findall((Module:PI)-wanted(Pattern, comment(Path, Line)),
+            ( member(Source, Known.project.sources),
+              _{path:Path, module:Module} :< Source,
+              comment_patterns(Path, Comments),
+              member(PI-pattern(Pattern, Line), Comments) ),
+            Pairs0),
     findall(Key-wanted(Pattern, call(File, Line, Column)), member(Key-call(Pattern, File, Line, Column), Lacking), Pairs1),
     append(Pairs0, Pairs1, Pairs2),
     keysort(Pairs2, Pairs),

@@ -29,14 +29,12 @@ forget_places :-
 
 %!  place_of_line(+Place, +Path, -File, -Line, -Column) is det.
 %
-%   Place is the line of a clause in Path, or Base:Line in a file that Path
-%   includes. Column is where the text of that line begins, and 1 if it is not
-%   known.
+%   Place is a line of Path, or File:Line. Column is where the text of that line
+%   begins, and 1 if it is not known.
 
 place_of_line(Place, Path, File, Line, Column) :-
-    (   Place = Base:Line
-    ->  file_directory_name(Path, Directory),
-        atomic_list_concat([Directory, /, Base], File)
+    (   Place = File:Line
+    ->  true
     ;   File = Path,
         Line = Place
     ),

@@ -25,27 +25,39 @@ keys part(Key, Number).
 :- use_module(library(pairs)).
 :- use_module(library(yall)).
 :- use_module(real_goals).
+:- use_module(real_modules, [root_source/2, start_project/0]).
 
 most_arguments(12).
 most_variables(48).
 most_shared(36).
 most_distributed(128).
 
-%!  covering_program(+Source:dict, -Program) is det.
+%!  covering_program(+Project:dict, -Program) is det.
 
-covering_program(Source, Program) :-
-    assoc_to_keys(Source.clauses, Keys0),
-    append([Keys0, Source.dynamic, Source.multifile], Keys1),
-    sort(Keys1, Keys),
+covering_program(Project, Program) :-
+    start_project,
+    maplist(source_keys, Project.sources, Lists),
+    append(Lists, Keys1),
+    sort(Keys1, Keys2),
+    (   root_source(Project, Source),
+        Source.directives \== []
+    ->  Keys = [directives|Keys2]
+    ;   Keys = Keys2
+    ),
     empty_assoc(Seen),
-    cover(Keys, Source, Seen, Program, []).
+    cover(Keys, Project, Seen, Program0, []),
+    with_cyclic(Program0, Program).
+
+source_keys(Source, Keys) :-
+    assoc_to_keys(Source.clauses, Keys0),
+    append([Keys0, Source.dynamic, Source.multifile], Keys).
 
 cover([], _, _, Program, Program).
-cover([Key|Keys], Source, Seen0, Program0, Program) :-
+cover([Key|Keys], Project, Seen0, Program0, Program) :-
     (   get_assoc(Key, Seen0, _)
-    ->  cover(Keys, Source, Seen0, Program0, Program)
+    ->  cover(Keys, Project, Seen0, Program0, Program)
     ;   put_assoc(Key, Seen0, seen, Seen),
-        predicate_clauses(Source, Key, Pure0, Found),
+        predicate_clauses(Project, Key, Pure0, Found),
         findall(Need, member(need(Need), Found), Needs0),
         sort(Needs0, Needs),
         findall(note(Line, Doubt), member(note(Line, Doubt), Found), Notes0),
@@ -55,8 +67,62 @@ cover([Key|Keys], Source, Seen0, Program0, Program) :-
         Program0 = [predicate(Key, Clauses, Notes)|Program1],
         append(Parts, Program2, Program1),
         append(Keys, Needs, More),
-        cover(More, Source, Seen, Program2, Program)
+        cover(More, Project, Seen, Program2, Program)
     ).
+
+%   with_cyclic(+Program0, -Program): with a note for each clause whose goals
+%   are past by a cyclic term alone. cti never gets past them.
+
+with_cyclic(Program0, Program) :-
+    findall(Key-Clauses, member(predicate(Key, Clauses, _), Program0), Pairs),
+    list_to_assoc(Pairs, ByKey),
+    maplist(cyclic_noted(ByKey), Program0, Program).
+
+cyclic_noted(ByKey, predicate(Key, Clauses, Notes0), predicate(Key, Clauses, Notes)) :-
+    findall(note(Line, cyclic),
+            ( member(Clause, Clauses), needs_cyclic(Clause, ByKey), Clause = clause(_, _, Line) ),
+            Cyclic),
+    (   Cyclic == []
+    ->  Notes = Notes0
+    ;   append(Notes0, Cyclic, Notes1),
+        sort(Notes1, Notes)
+    ).
+
+needs_cyclic(clause(_, Goals, _), ByKey) :-
+    Goals \== [],
+    \+ may_pass(Goals, ByKey, occurs_check),
+    may_pass(Goals, ByKey, rational_trees).
+
+%   may_pass(+Goals, +ByKey, +Unification): the unifications of the Goals, with
+%   those of the clauses that they call directly, have a common solution. Where
+%   the search is long it is said to have one.
+
+may_pass(Goals, ByKey, Unification) :-
+    call_with_inference_limit(\+ \+ passed(Goals, ByKey, Unification, 2), 100000, _).
+
+passed([], _, _, _).
+passed([Goal|Goals], ByKey, Unification, Depth) :-
+    passed_goal(Goal, ByKey, Unification, Depth),
+    passed(Goals, ByKey, Unification, Depth).
+
+passed_goal(A = B, _, Unification, _) :-
+    unified(Unification, A, B).
+passed_goal(call(Key, Args), ByKey, Unification, Depth) :-
+    (   Key == fail
+    ->  fail
+    ;   Depth =:= 0
+    ->  true
+    ;   Next is Depth - 1,
+        get_assoc(Key, ByKey, Clauses),
+        member(Clause, Clauses),
+        copy_term(Clause, clause(Args1, Goals, _)),
+        unified(Unification, Args, Args1),
+        passed(Goals, ByKey, Unification, Next)
+    ).
+
+unified(occurs_check, A, B) :-
+    unify_with_occurs_check(A, B).
+unified(rational_trees, A, A).
 
 %   Clauses that are variants of each other are one. Facts are many where a
 %   file is a table.
@@ -310,6 +376,7 @@ named(predicate(Key, Clauses, _), Names, [Key-Name/Arity|Names]) :-
     key_name(Key, Names, Name),
     key_arity(Key, Clauses, Arity).
 
+key_name(directives, _, directives) :- !.
 key_name(prelude(Name/_), _, Pure) :-
     !,
     atom_concat('prelude ', Name, Pure).

@@ -1,6 +1,5 @@
 :- module(real_goals,
-          [ predicate_clauses/4,        % +Main, +Key, -Clauses, -Found
-            source_of/3,                % +Main, +Predicate, -Source
+          [ predicate_clauses/4,        % +Project, +Key, -Clauses, -Found
             pure_term/2                 % +Term, -Pure
           ]).
 
@@ -15,6 +14,7 @@ A key names a predicate of the pure program:
   - Module:Name/Arity, a predicate of the file or of a library that is read;
   - special(Module:Name/Arity, Closures): the same with known closures,
     one for each argument, or `-` where the argument stays one;
+  - directives, a predicate that calls what the file's directives call;
   - prelude(Name/Arity), one of the predicates at the end of this file.
 
 What was found on the way is a list of need(Key) and note(Line, Doubt).
@@ -29,32 +29,100 @@ docs/real-files.md says for each doubt what is assumed.
 :- use_module(library(varnumbers)).
 :- use_module(library(yall)).
 :- use_module(real_builtins).
+:- use_module(real_modules).
 :- use_module(real_source).
 
-:- dynamic kept_library/2, kept_file/2, kept_index/2.
+%!  predicate_clauses(+Project:dict, +Key, -Clauses, -Found) is det.
 
-%!  predicate_clauses(+Main:dict, +Key, -Clauses, -Found) is det.
-
+predicate_clauses(Project, directives, Clauses, Found) :-
+    !,
+    phrase(directives_of(Project.sources, Project, Clauses), Found).
 predicate_clauses(_, prelude(Name/Arity), Clauses, Found) :-
     !,
     findall(pure(Args, Body, 0),
             ( prelude(Head, Body), functor(Head, Name, Arity), Head =.. [_|Args] ),
             Clauses),
     findall(need(Key), ( member(pure(_, Body, _), Clauses), called(Body, Key) ), Found).
-predicate_clauses(Main, special(Predicate, Closures), Clauses, Found) :-
+predicate_clauses(Project, special(Predicate, Closures), Clauses, Found) :-
     !,
-    source_of(Main, Predicate, Source),
+    defining_sources(Project, Predicate, [Source]),
     source_clauses(Source, Predicate, Real),
-    phrase(special_clauses(Real, Closures, Main, Source, Predicate, Clauses), Found).
-predicate_clauses(Main, Predicate, Clauses, Found) :-
-    source_of(Main, Predicate, Source),
-    source_clauses(Source, Predicate, Real),
-    phrase(( doubts_of(Source, Predicate, Real), pure_clauses(Real, Main, Source, Predicate, Clauses0) ), Found),
-    (   comes_and_goes(Source, Predicate)
+    phrase(( doubts_of_file(Project, Source), special_clauses(Real, Closures, Project, Source, Predicate, Clauses) ), Found).
+predicate_clauses(Project, Predicate, Clauses, Found) :-
+    defining_sources(Project, Predicate, Sources),
+    phrase(clauses_in_sources(Sources, Project, Predicate, Clauses0), Found),
+    (   member(Source, Sources),
+        comes_and_goes(Source, Predicate)
     ->  general_clause(Predicate, General),
         append(Clauses0, [General], Clauses)
     ;   Clauses = Clauses0
     ).
+
+clauses_in_sources([], _, _, []) --> [].
+clauses_in_sources([Source|Sources], Project, Predicate, Clauses) -->
+    { source_clauses(Source, Predicate, Real) },
+    doubts_of_file(Project, Source),
+    doubts_of(Source, Project, Predicate, Real),
+    pure_clauses(Real, Project, Source, Predicate, Clauses0),
+    joining_clauses(Project, Source, Predicate, Real, Joining),
+    clauses_in_sources(Sources, Project, Predicate, Clauses1),
+    { append([Clauses0, Joining, Clauses1], Clauses) }.
+
+%   What is doubted of a file concerns each of its predicates. It is always
+%   assumed that another file leaves nothing behind when it is loaded.
+
+doubts_of_file(Project, Source) -->
+    { is_root(Project, Source)
+    ->  Doubts = Source.doubts
+    ;   exclude(leaves_behind, Source.doubts, Doubts) },
+    file_notes(Doubts).
+
+leaves_behind(doubt(_, Doubt)) :-
+    memberchk(Doubt, [lasting(_), hook(_), flag(_), libraries]).
+
+file_notes([]) --> [].
+file_notes([doubt(Line, Doubt)|Doubts]) -->
+    [note(Line, file(Doubt))],
+    file_notes(Doubts).
+
+%   Directives: what they call may leave something behind, so what is not
+%   known of it is said of each.
+
+directives_of([], _, []) --> [].
+directives_of([Source|Sources], Project, Clauses) -->
+    directive_clauses(Source.directives, Project, Source, Clauses0),
+    directives_of(Sources, Project, Clauses1),
+    { append(Clauses0, Clauses1, Clauses) }.
+
+directive_clauses([], _, _, []) --> [].
+directive_clauses([directive(Line, Module, Goal)|Directives], Project, Source, [pure([], Pure, Line)|Clauses]) -->
+    { context(Project, Source, Module, Line, Context0),
+      Context = Context0.put(directive, yes),
+      phrase(goal(Goal, Context, Pure), Found0),
+      maplist(said_of_directive, Found0, Found) },
+    Found,
+    directive_clauses(Directives, Project, Source, Clauses).
+
+said_of_directive(note(Line, Doubt), note(Line, directive(Doubt))) :- !.
+said_of_directive(Found, Found).
+
+context(Project, Source, Module, Line,
+        context{project:Project, source:Source, module:Module, line:Line, numbers:[], directive:no}).
+
+%   What tabling calls to join the answers of a predicate.
+
+joining_clauses(Project, Source, Predicate, Real, Clauses) -->
+    { Predicate = Module:_,
+      findall(Goal, member(Predicate-Goal, Source.joins), Goals),
+      first_line(Real, Line),
+      context(Project, Source, Module, Line, Context) },
+    goal_clauses(Goals, Predicate, Context, Clauses).
+
+goal_clauses([], _, _, []) --> [].
+goal_clauses([Goal|Goals], Predicate, Context, [pure(Args, Pure, Context.line)|Clauses]) -->
+    { general_clause(Predicate, pure(Args, true, _)) },
+    covering((find(goal(Goal)), goal(fail)), Context, Pure),
+    goal_clauses(Goals, Predicate, Context, Clauses).
 
 called((A, B), Key) :-
     (   called(A, Key)
@@ -77,14 +145,40 @@ general_clause(_:_/Arity, pure(Args, true, 0)) :-
 
 %   What is doubted of a predicate as a whole.
 
-doubts_of(Source, Predicate, Real) -->
+doubts_of(Source, Project, Predicate, Real) -->
     { first_line(Real, Line) },
-    doubt_if(memberchk(Predicate, Source.multifile), Line, multifile),
+    doubt_if(( memberchk(Predicate, Source.multifile), \+ is_hook(Predicate) ), Line, multifile),
     doubt_if(memberchk(Predicate, Source.conditional), Line, conditional),
-    doubt_if(memberchk(Predicate-moded, Source.tabled), Line, tabled),
+    doubt_if(( memberchk(Predicate-moded, Source.tabled)
+             ; memberchk(Predicate-_, Source.tabled), memberchk(tabling, Source.flags) ), Line, tabled),
     doubt_if(imported_by_name(Source, Predicate), Line, imported),
     doubt_if(( memberchk(Predicate, Source.transparent), has_context(Real) ), Line, transparent),
-    doubt_if(( memberchk(Predicate, Source.dynamic), Source.adds \== [] ), Line, adds).
+    doubt_if(( memberchk(Predicate, Source.dynamic), adds_unknown(Project, Source) ), Line, adds),
+    (   { is_root(Project, Source) }
+    ->  []
+    ;   adding_notes(Real, Source.adds)
+    ).
+
+%   A root, or the file itself, adds clauses that are not known. Another file
+%   may add some where a clause of it does.
+
+adds_unknown(Project, Source) :-
+    (   Source.adds \== []
+    ->  true
+    ;   root_source(Project, Root),
+        Root.adds \== []
+    ->  true
+    ).
+
+is_root(Project, Source) :-
+    root_source(Project, Root),
+    Root.path == Source.path,
+    !.
+
+adding_notes([], _) --> [].
+adding_notes([clause(Line, _, _)|Real], Adds) -->
+    doubt_if(memberchk(doubt(Line, asserts), Adds), Line, asserts),
+    adding_notes(Real, Adds).
 
 doubt_if(Condition, Line, Doubt) -->
     (   { call(Condition) }
@@ -118,12 +212,12 @@ imported_by_name(Source, Module:PI) :-
     !.
 
 pure_clauses([], _, _, _, []) --> [].
-pure_clauses([clause(Line, Head, Body)|Real], Main, Source, Module:PI, [pure(Args, Pure, Line)|Clauses]) -->
+pure_clauses([clause(Line, Head, Body)|Real], Project, Source, Module:PI, [pure(Args, Pure, Line)|Clauses]) -->
     { Head =.. [_|Args0],
       maplist(pure_term, Args0, Args),
-      Context = context{main:Main, source:Source, module:Module, line:Line, numbers:[]} },
+      context(Project, Source, Module, Line, Context) },
     body(Body, Context, Pure),
-    pure_clauses(Real, Main, Source, Module:PI, Clauses).
+    pure_clauses(Real, Project, Source, Module:PI, Clauses).
 
 %   A fact has no body to rewrite.
 
@@ -140,7 +234,7 @@ body(Body, Context, Pure) -->
 %   which real_source lets stand in no file.
 
 special_clauses([], _, _, _, _, []) --> [].
-special_clauses([Real|Rest], Closures, Main, Source, Predicate, [pure(Args, Pure, Line)|Clauses]) -->
+special_clauses([Real|Rest], Closures, Project, Source, Predicate, [pure(Args, Pure, Line)|Clauses]) -->
     { copy_term_nat(Real, clause(Line, Head, Body)),
       Head =.. [_|Args0],
       fresh_closures(Closures, Fresh, Variables),
@@ -148,9 +242,9 @@ special_clauses([Real|Rest], Closures, Main, Source, Predicate, [pure(Args, Pure
       append(Args1, Variables, Args2),
       maplist(pure_term, Args2, Args),
       Predicate = Module:_,
-      Context = context{main:Main, source:Source, module:Module, line:Line, numbers:[]} },
+      context(Project, Source, Module, Line, Context) },
     body(Body, Context, Pure),
-    special_clauses(Rest, Closures, Main, Source, Predicate, Clauses).
+    special_clauses(Rest, Closures, Project, Source, Predicate, Clauses).
 
 %   Closures are kept with '$VAR'(I) for their variables, in order.
 
@@ -164,40 +258,6 @@ bind_closures([-|Cs], [A|As], [A|Bs]) :-
     bind_closures(Cs, As, Bs).
 bind_closures([C|Cs], [C|As], Bs) :-
     bind_closures(Cs, As, Bs).
-
-
-%!  source_of(+Main, +Predicate, -Source) is semidet.
-%
-%   Source is what was read of the file that has the clauses of Predicate.
-
-source_of(Main, Module:PI, Source) :-
-    (   is_defined(Main, Module:PI)
-    ->  Source = Main
-    ;   module_source(Main, Module, Source)
-    ).
-
-module_source(Main, Module, Source) :-
-    (   Module == Main.module
-    ->  Source = Main
-    ;   atom_concat(plunit_, _, Module)
-    ->  Source = Main
-    ;   library_source(Module, Source)
-    ).
-
-library_source(Module, Source) :-
-    kept_library(Module, Source),
-    !.
-library_source(Module, Source) :-
-    is_read_library(Module),
-    library_of(Module, Spec),
-    read_source(Spec, Source0),
-    % These files were looked at: what they rewrite does not concern them.
-    Source = Source0.put(_{expansions:[], doubts:[]}),
-    assertz(kept_library(Module, Source)).
-
-library_of(dcg_basics, library(dcg/basics)) :- !.
-library_of(dcg_high_order, library(dcg/high_order)) :- !.
-library_of(Module, library(Module)).
 
 
 %   goal(+Goal, +Context, -Pure)// emits what is found.
@@ -259,7 +319,18 @@ plain_goal(@(G, M), Context, P) -->
     goal(G, Context, P).
 plain_goal(G, Context, P) -->
     { resolved(G, Context, Where) },
-    goal_of(Where, G, Context, P).
+    (   { Context.directive == yes, Where \= own(_) }
+    ->  directive_goal(G, Where, Context, P)
+    ;   goal_of(Where, G, Context, P)
+    ).
+
+directive_goal(G, Where, Context, P) -->
+    (   { is_harmless_directive(G) }
+    ->  { P = true }
+    ;   { G = initialization(G1) ; G = initialization(G1, _) }
+    ->  goal(G1, Context, P)
+    ;   goal_of(Where, G, Context, P)
+    ).
 
 branch(A, Context, P) -->
     { nonvar(A), ( A = (C -> T) ; A = (C *-> T) ) },
@@ -302,7 +373,7 @@ numbers_after(G, Context0, Context) :-
     ;   nonvar(G), G = must_be(Type, V), var(V), nonvar(Type),
         memberchk(Type, [integer, nonneg, positive_integer]),
         resolved(G, Context0, Where),
-        memberchk(Where, [library(error), library(error, _)])
+        Where = exported(_, error:_)
     ->  Context = Context0.put(numbers, [V|Context0.numbers])
     ;   Context = Context0
     ).
@@ -320,15 +391,26 @@ goal_in(M, G, Context, P) -->
     !,
     goal(G, Context, P).
 goal_in(M, G, Context, P) -->
-    { module_source(Context.main, M, Source) },
+    { module_source(Context, M, Source) },
     !,
     goal(G, Context.put(_{module:M, source:Source}), P).
 goal_in(M, G, Context, P) -->
-    goal(G, Context.put(_{module:M, source:Context.main}), P).
+    goal(G, Context.put(module, M), P).
 
+
+%   declaring_source(+Predicate, +Context, -Source): one that defines Predicate,
+%   and declares its meta-arguments if one does.
+
+declaring_source(Predicate, Context, Source) :-
+    defining_sources(Context.project, Predicate, Sources),
+    (   member(Source, Sources),
+        memberchk(Predicate-_, Source.meta)
+    ->  true
+    ;   Sources = [Source|_]
+    ).
 
 %   resolved(+Goal, +Context, -Where): own(Predicate), builtin,
-%   library(Module) for one of SWI-Prolog's, or unknown(PI).
+%   exported(Path, Predicate) for one of another file, or unknown(PI).
 
 resolved(G, Context, Where) :-
     functor(G, Name, Arity),
@@ -336,7 +418,7 @@ resolved(G, Context, Where) :-
     (   is_kept(G, Context)
     ->  Where = builtin
     ;   own_module(Context, M),
-        is_defined(Context.source, M:PI)
+        is_defined_here(Context, M:PI)
     ->  Where = own(M:PI)
     ;   Context.module == system
     ->  Where = builtin
@@ -345,14 +427,45 @@ resolved(G, Context, Where) :-
     ;   sees_imports(Context),
         import_of(Context.source, PI, Import)
     ->  import_where(Import, Where)
-    ;   Context.source == Context.main,
-        is_defined(Context.source, user:PI)
-    ->  Where = own(user:PI)
+    ;   inherits_user(Context),
+        of_user(Context, PI, Found)
+    ->  Where = Found
     ;   predicate_property(system:G, built_in)
     ->  Where = builtin
-    ;   index(PI, Module)
-    ->  Where = library(Module)
-    ;   Where = unknown(PI)
+    ;   index(PI, Module, Path)
+    ->  Where = exported(Path, Module:PI)
+    ;   own_name(PI, Context, Own),
+        Where = unknown(Own)
+    ).
+
+is_defined_here(Context, Predicate) :-
+    (   is_defined(Context.source, Predicate)
+    ->  true
+    ;   is_defined_in(Context.project, Predicate)
+    ).
+
+%   The library's modules inherit nothing from user, unless they are looked at
+%   as files.
+
+inherits_user(Context) :-
+    (   \+ is_library_file(Context.source.path)
+    ->  true
+    ;   is_root(Context.project, Context.source)
+    ).
+
+of_user(Context, PI, Where) :-
+    (   is_defined_in(Context.project, user:PI)
+    ->  Where = own(user:PI)
+    ;   root_source(Context.project, Source),
+        Source.module == user,
+        import_of(Source, PI, Import)
+    ->  import_where(Import, Where)
+    ).
+
+own_name(PI, Context, Own) :-
+    (   is_root(Context.project, Context.source)
+    ->  Own = PI
+    ;   Own = Context.module:PI
     ).
 
 %   is_kept(+Goal, +Context): Goal is built in, and the file does not redefine
@@ -370,7 +483,7 @@ own_module(Context, M) :-
     M = Context.module.
 own_module(Context, M) :-
     atom_concat(plunit_, _, Context.module),
-    M = Context.main.module.
+    M = Context.source.module.
 
 sees_imports(Context) :-
     (   Context.module == Context.source.module
@@ -385,143 +498,39 @@ knows_module(Context) :-
     ).
 
 import_where(imported(Path, Module:PI), Where) :-
-    (   is_library_file(Path)
-    ->  Where = library(Module, PI)
+    (   Module \== none,
+        atom(Path),
+        Path \== none
+    ->  Where = exported(Path, Module:PI)
     ;   Where = unknown(Module:PI)
-    ).
-
-%   import_of(+Source, +PI, -Import): what a directive of the file imports by
-%   that name: imported(Path, Module:PI), or imported(Path, none:PI). Where
-%   there are several, one from outside SWI-Prolog's library is taken, which
-%   is assumed to end; else one that is imported by its name.
-
-import_of(Source, PI, Import) :-
-    findall(Selection-imported(Path, Found),
-            ( member(import(Path, Header, Selection), Source.imports),
-              imports(Path, Header, Selection, PI, [Source.path], Found) ),
-            Imports),
-    (   member(_-Import, Imports),
-        Import = imported(Path, _),
-        \+ is_library_file(Path)
-    ->  true
-    ;   member(Selection-Import, Imports),
-        is_list(Selection)
-    ->  true
-    ;   Imports = [_-Import|_]
-    ).
-
-%   imports(+Path, +Header, +Selection, +PI, +Visited, -Found)
-
-imports(Path, header(Module, Exports), Selection, PI, Visited, Found) :-
-    Module \== none,
-    !,
-    (   selected(Selection, Exports, PI, Real)
-    ->  Found = Module:Real
-    ;   \+ is_library_file(Path),
-        \+ memberchk(Path, Visited),
-        plain_file(Path, Source),
-        member(import(Path1, Header1, Selection1), Source.reexports),
-        imports(Path1, Header1, Selection1, PI, [Path|Visited], Found)
-    ->  true
-    ).
-imports(Path, header(none, _), _, PI, Visited, none:PI) :-
-    (   atom(Path), exists_file(Path)
-    ->  \+ memberchk(Path, Visited),
-        plain_file(Path, Source),
-        (   is_defined(Source, Source.module:PI)
-        ->  true
-        ;   member(import(Path1, Header1, Selection1), Source.imports),
-            imports(Path1, Header1, Selection1, PI, [Path|Visited], _)
-        ->  true
-        )
-    ;   Path \= library(_)
-    ).
-
-selected(Selection, Exports, PI, PI) :-
-    var(Selection),
-    !,
-    exports(Exports, PI).
-selected(all, Exports, PI, PI) :-
-    !,
-    exports(Exports, PI).
-selected(except(Excepted), Exports, PI, PI) :-
-    !,
-    exports(Exports, PI),
-    \+ exports(Excepted, PI).
-selected(List, _, Name/Arity, Real) :-
-    is_list(List),
-    (   exports(List, Name/Arity)
-    ->  Real = Name/Arity
-    ;   member(Item, List),
-        nonvar(Item),
-        Item = as(Real0, Name),
-        exports([Real0], _/Arity)
-    ->  exports([Real0], Real1/Arity),
-        Real = Real1/Arity
-    ).
-
-exports(Exports, Name/Arity) :-
-    member(Export, Exports),
-    (   Export = Name/Arity
-    ;   nonvar(Export),
-        Export = Name//Arity0,
-        integer(Arity0),
-        Arity is Arity0 + 2
-    ),
-    !.
-
-plain_file(Path, Source) :-
-    kept_file(Path, Source),
-    !.
-plain_file(Path, Source) :-
-    read_source(Path, Source),
-    assertz(kept_file(Path, Source)).
-
-is_library_file(Path) :-
-    atom(Path),
-    current_prolog_flag(home, Home),
-    sub_atom(Path, 0, _, _, Home).
-
-%   The index of the predicates that are loaded when they are called.
-
-index(PI, Module) :-
-    ensure_index,
-    kept_index(PI, Module).
-
-ensure_index :-
-    kept_index(_, _),
-    !.
-ensure_index :-
-    forall(( absolute_file_name(library('INDEX'), Path, [extensions([pl]), access(read), solutions(all)]),
-             setup_call_cleanup(open(Path, read, In, [encoding(utf8)]), index_entry(In, Name, Arity, Module), close(In)) ),
-           assertz(kept_index(Name/Arity, Module))).
-
-index_entry(In, Name, Arity, Module) :-
-    repeat,
-    read(In, Term),
-    (   Term == end_of_file
-    ->  !, fail
-    ;   Term = index(Name, Arity, Module, _)
     ).
 
 
 %   goal_of(+Where, +Goal, +Context, -Pure)//
 
 goal_of(own(Predicate), G, Context, P) -->
-    call_of(Predicate, Context.source, G, Context, P).
+    (   { declaring_source(Predicate, Context, Source) }
+    ->  call_of(Predicate, Source, G, Context, P)
+    ;   { P = true },
+        note(Context, external(Predicate))
+    ).
 goal_of(builtin, G, Context, P) -->
     builtin(system, G, Context, P).
-goal_of(library(Module), G, Context, P) -->
-    { functor(G, Name, Arity) },
-    goal_of(library(Module, Name/Arity), G, Context, P).
-goal_of(library(Module, Name/Arity), G0, Context, P) -->
+goal_of(exported(Path, Module:Name/Arity), G0, Context, P) -->
     { G0 =.. [_|Args],
       G =.. [Name|Args] },
-    (   { known(Module, G) }
+    (   { root_source(Context.project, Own),
+          is_defined(Own, Module:Name/Arity),
+          Own.path \== Path }
+    ->  note(Context, imported),
+        call_of(Module:Name/Arity, Own, G, Context, P)
+    ;   { is_library_file(Path),
+          known(Module, G) }
     ->  builtin(Module, G, Context, P)
-    ;   { library_source(Module, Source),
-          is_defined(Source, Module:Name/Arity) }
-    ->  call_of(Module:Name/Arity, Source, G, Context, P)
+    ;   { exported_source(Context.project, Path, Module:Name/Arity, Real, Source) }
+    ->  { Real = _:RealName/_,
+          RealGoal =.. [RealName|Args] },
+        call_of(Real, Source, RealGoal, Context, P)
     ;   { P = true },
         note(Context, external(Module:Name/Arity))
     ).
@@ -539,6 +548,7 @@ known(Where, G) :-
 builtin(Where, G, Context, fail) -->
     { never_succeeds(Where, G) },
     !,
+    halt_note(G, Context),
     hook_calls(G, Context, _).
 builtin(system, G, Context, P) -->
     { G =.. [call, C|Xs],
@@ -562,9 +572,14 @@ builtin(Where, G, Context, P) -->
     !,
     text_note(G, Context),
     function_note(G, Context),
+    halt_note(G, Context),
+    term_note(Where, G, Context),
+    module_note(Where, G, Context),
     hook_calls(G, Context, P0),
-    { foldl(result, Xs, true, P1),
-      both(P0, P1, P) }.
+    listed_options(G, Context, P1),
+    { foldl(result, Xs, true, P2),
+      both(P0, P1, P01),
+      both(P01, P2, P) }.
 builtin(_, G, Context, true) -->
     { functor(G, Name, Arity) },
     note(Context, external(system:Name/Arity)).
@@ -589,19 +604,43 @@ between_goal(L, H, X, Context, P) -->
         )
     ).
 
-%   A text of format/2 that is not known may hold ~@, which runs a goal.
+%   A text of format/2 that is not known may hold ~@, which runs a goal, or ~W,
+%   whose options may hold one.
 
 text_note(G, Context) -->
     (   { format_text(G, Text) }
-    ->  (   { plain_text(Text) }
+    ->  (   { plain_text(Text),
+              \+ ( prints_message(G), mentions(Context, '~@') ) }
         ->  []
         ;   note(Context, text)
         ),
-        (   { Context.main.letters == yes }
+        (   { has_letters(Context) }
         ->  note(Context, letter)
         ;   []
         )
     ;   []
+    ).
+
+has_letters(Context) :-
+    concerned_source(Context, Source),
+    Source.letters == yes,
+    !.
+
+mentions(Context, Name) :-
+    concerned_source(Context, Source),
+    memberchk(Name, Source.mentions),
+    !.
+
+sets_flag(Context, Kind) :-
+    concerned_source(Context, Source),
+    memberchk(Kind, Source.flags),
+    !.
+
+%   What the whole program does concerns each of its texts.
+
+concerned_source(Context, Source) :-
+    (   Source = Context.source
+    ;   root_source(Context.project, Source)
     ).
 
 format_text(format(Text), Text).
@@ -620,6 +659,11 @@ format_text(print_message_lines(_, _, Lines), Text) :-
     ;   true
     ).
 
+%   The lines of a message may be made by the file, with any text in it.
+
+prints_message(print_message(_, _)).
+prints_message(message_to_string(_, _)).
+
 %   message_text(+Message, -Text): a text that the message has. Messages for
 %   errors and for goals that failed may have one within.
 
@@ -637,17 +681,111 @@ message_text(Message, Text) :-
     ;   Text = ''
     ).
 
+%   plain_text(+Text): no letter of the text runs a goal.
+
 plain_text(Text) :-
+    text_codes(Text, Codes),
+    \+ runs_goal(Codes).
+
+text_codes(Text, Codes) :-
     (   atom(Text)
     ;   string(Text)
     ),
     !,
-    \+ sub_string(Text, _, _, _, "@").
-plain_text(Text) :-
+    string_codes(Text, Codes).
+text_codes(Text, Codes) :-
     is_list(Text),
     ground(Text),
-    \+ memberchk(0'@, Text),
-    \+ memberchk(@, Text).
+    catch(text_to_string(Text, String), _, fail),
+    string_codes(String, Codes).
+
+%   Goals of at_halt/1 run where the system halts, also for an error's message.
+
+halt_note(G, Context) -->
+    (   { memberchk(G, [halt, halt(_), print_message(_, _)]),
+          member(Name, [at_halt, thread_at_exit, prolog_at_thread_exit]),
+          mentions(Context, Name) }
+    ->  note(Context, halts)
+    ;   []
+    ).
+
+%   Terms that are read run the syntaxes of quasi quotations, and terms that
+%   were kept may have goals that wait for their variables.
+
+term_note(Where, G, Context) -->
+    { functor(G, Name, Arity) },
+    (   { reads_terms(Where, Name/Arity),
+          mentions(Context, quasi_quotation_syntax) }
+    ->  note(Context, quasi)
+    ;   { Where == system,
+          keeps_terms(Name/Arity),
+          member(Waiting, [freeze, when, dif, put_attr, put_attrs]),
+          mentions(Context, Waiting) }
+    ->  note(Context, kept(Name/Arity))
+    ;   []
+    ).
+
+%   A module that inherits from another one than user.
+
+module_note(Where, G, Context) -->
+    (   { Where == system,
+          G = set_module(Property0),
+          strip_module(Property0, _, Property),
+          \+ Property \= base(_) }
+    ->  note(Context, lasting(set_module))
+    ;   []
+    ).
+
+%   The goals of options. Where they are not all known, one may hold a goal.
+
+listed_options(G, Context, P) -->
+    (   { option_list(G, Options) }
+    ->  options(Options, Context, P)
+    ;   { P = true }
+    ),
+    (   { prints(G), sets_flag(Context, printing) }
+    ->  note(Context, options)
+    ;   []
+    ).
+
+prints(G) :-
+    functor(G, Name, Arity),
+    hooks(Name/Arity, Hooks),
+    memberchk(user:portray/1, Hooks),
+    !.
+
+options(Options0, Context, P) -->
+    { nonvar(Options0) },
+    (   { Options0 = M:Options, atom(M) }
+    ->  !,
+        options(Options, Context.put(module, M), P)
+    ;   { is_list(Options0) },
+        !,
+        options_in(Options0, Context, P)
+    ).
+options(_, Context, true) -->
+    note(Context, options).
+
+options_in([], _, true) --> [].
+options_in([Option|Options], Context, P) -->
+    (   { nonvar(Option), \+ ( Option = (Name=_), \+ atom(Name) ) }
+    ->  { option_term(Option, Term),
+          (   option_goal(Term, G)
+          ->  P0 = find(goal(G))
+          ;   P0 = true
+          ) },
+        covering(P0, Context, P1)
+    ;   { P1 = true },
+        note(Context, options)
+    ),
+    options_in(Options, Context, P2),
+    { both(P1, P2, P) }.
+
+option_term(Option, Term) :-
+    (   Option = (Name=Value)
+    ->  Term =.. [Name, Value]
+    ;   Term = Option
+    ).
 
 %   Arithmetic with functions that the file defines.
 
@@ -668,10 +806,20 @@ function_note(G, Context) -->
 hook_calls(G, Context, P) -->
     { functor(G, Name, Arity) },
     (   { hooks(Name/Arity, Hooks),
-          include(is_defined(Context.main), Hooks, Own),
+          findall(Hook, ( member(Pattern, Hooks), defined_hook(Pattern, Context.project, Hook) ), Own),
           Own = [_|_] }
     ->  hooks_called(Own, P)
     ;   { P = true }
+    ).
+
+%   A hook of any module is written with a variable.
+
+defined_hook(Module:PI, Project, Module:PI) :-
+    (   nonvar(Module)
+    ->  is_defined_in(Project, Module:PI)
+    ;   root_source(Project, Source),
+        assoc_to_keys(Source.clauses, Keys),
+        member(Module:PI, Keys)
     ).
 
 hooks_called([], true) --> [].
@@ -703,6 +851,8 @@ covering(goal(G), Context, P) -->
     goal(G, Context, P).
 covering(hooks(G), Context, P) -->
     hook_calls(G, Context, P).
+covering(options(Options), Context, P) -->
+    options(Options, Context, P).
 covering(find(R), Context, P) -->
     covering(R, Context, P0),
     { both(P0, fail, P1),
@@ -811,7 +961,7 @@ call_of(Predicate, Source, G, Context, P) -->
       meta_specs(Predicate, Source, Args, Specs),
       maplist(known_closure(Context), Specs, Args, Closures),
       memberchk('$closure'(_, _), Closures),
-      may_specialise(Predicate, Source, Closures) },
+      may_specialise(Predicate, Source, Context.project, Closures) },
     !,
     { copy_term_nat(Closures, Numbered),
       term_variables(Closures, Variables),
@@ -908,7 +1058,8 @@ small_closure(C) :-
     Count =< 1,
     \+ ( sub_term(Sub, C), nonvar(Sub), Sub = '$VAR'(_) ).
 
-may_specialise(Predicate, Source, Closures) :-
+may_specialise(Predicate, Source, Project, Closures) :-
+    defining_sources(Project, Predicate, [_]),
     source_clauses(Source, Predicate, Real),
     Real = [_|_],
     \+ comes_and_goes(Source, Predicate),

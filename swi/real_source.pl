@@ -1,6 +1,10 @@
 :- module(real_source,
           [ read_source/2,              % +File, -Source
+            read_sources/2,             % +Files, -Project
+            file_source/2,              % +Path, -Source
+            file_reexports/2,           % +Path, -Imports
             module_header/4,            % +Spec, +Path, -ModulePath, -Header
+            is_library_file/1,          % +Path
             source_clauses/3,           % +Source, +Predicate, -Clauses
             is_defined/2                % +Source, +Predicate
           ]).
@@ -9,15 +13,21 @@
 
 read_source/2 reads a file with SWI-Prolog's own reader, with the operators,
 the flags, the conditional compilation, the grammar rules and the included
-files that it has, and runs nothing of it.
+files that it has, and runs nothing of it. A file without a module that it
+loads is read as its own text.
 
-A predicate is Module:Name/Arity. A source is a dict:
+read_sources/2 reads several files as one program, a project. That is a dict
+with `path`, the first of the files, `files`, the paths of all, and
+`sources`: one for each module, and one for all files that have none.
+
+A predicate is Module:Name/Arity. A Line is the number of a line in the first
+file, and Path:Number in any other. A source is a dict:
 
 | path        | the file                                                    |
 | module      | its module, `user` where it has none                        |
 | exports     | Name/Arity for each predicate that it exports               |
+| texts       | its paths with those of the texts that it includes or loads |
 | clauses     | an assoc of each predicate's list of clause(Line,Head,Body) |
-|             | where Line is File:Line in an included file                 |
 | dynamic     | the predicates whose clauses come and go                    |
 | multifile   | the predicates that other files add to                      |
 | conditional | those with a clause below an `:- if` that is not decided     |
@@ -31,19 +41,30 @@ A predicate is Module:Name/Arity. A source is a dict:
 | letters     | `yes` where the file may define letters of format/2         |
 | expansions  | expansion(Kind,Pattern): what the file rewrites when loaded |
 | doubts      | doubt(Line,Doubt): what was not understood of the file      |
+| adds        | doubt(Line,asserts): where it adds a clause that is not     |
+|             | known                                                       |
 | unread      | place(Path,Line,Column,Message) of each syntax error        |
 | operators   | the module that has the operators of its text               |
+| directives  | directive(Line,Module,Goal) for each directive              |
+| mentions    | names in the text of what is run later, see file_doubts     |
+| flags       | `tabling`, `printing` where the file sets flags of these    |
+| joins       | Predicate-Goal: tabling calls Goal to join its answers      |
 */
 
 :- use_module(library(apply)).
 :- use_module(library(assoc)).
+:- use_module(library(error)).
+:- use_module(library(filesex)).
 :- use_module(library(gensym)).
 :- use_module(library(lists)).
 :- use_module(library(occurs)).
 :- use_module(library(pairs)).
+:- use_module(library(readutil)).
 :- use_module(library(yall)).
+:- use_module(file_doubts).
+:- use_module(real_builtins, [flag_kind/2]).
 
-:- dynamic kept_header/2.
+:- dynamic kept_header/2, kept_reexports/2.
 
 %!  read_source(+File, -Source:dict) is det.
 %
@@ -52,16 +73,141 @@ A predicate is Module:Name/Arity. A source is a dict:
 %   text in UTF-8.
 
 read_source(File, Source) :-
-    absolute_file_name(File, Path, [access(read), file_type(prolog)]),
-    gensym('real source ', Scratch),        % a module of its own for the operators
-    read_path(Path, Scratch, Items),
-    source_of(Path, Items, Source0),
-    Source = Source0.put(operators, Scratch).
+    read_sources([File], Project),
+    Project.sources = [Source].
 
-read_path(Path, Scratch, Items) :-
-    State0 = state{path:Path, module:user, file_module:user, scratch:Scratch,
-                  double_quotes:string, back_quotes:codes, conditions:[], flags:[], chr:no, included:no},
-    read_text(Path, State0, _, Items, []).
+%!  read_sources(+Files, -Project:dict) is det.
+%
+%   Files is a file, a directory, or a list of such. A directory stands for the
+%   files of Prolog in it and below it. Files without a module are one source.
+%   One that another of Files includes, or loads into its module, is read there
+%   alone. Throws as read_source/2.
+
+read_sources(Files, Project) :-
+    (   is_list(Files)
+    ->  maplist(project_paths, Files, Lists)
+    ;   project_paths(Files, List),
+        Lists = [List]
+    ),
+    append(Lists, Paths0),
+    list_to_set(Paths0, Paths),
+    forget_headers,
+    Paths = [First|_],
+    partition(has_module, Paths, ModulePaths, PlainPaths0),
+    maplist(read_module(First), ModulePaths, ModuleTexts),
+    findall(Loaded, ( member(text(_, Texts, _, _), ModuleTexts), member(Loaded, Texts) ), Elsewhere),
+    subtract(PlainPaths0, Elsewhere, PlainPaths),
+    (   PlainPaths == []
+    ->  Texts = ModuleTexts
+    ;   read_plain(First, PlainPaths, PlainText),
+        Texts = [PlainText|ModuleTexts]
+    ),
+    findall(Path-expansion(K, T), ( member(text(Path, _, _, Items), Texts), wide_expansion(Items, K, T) ), Wide),
+    maplist(text_source(Wide), Texts, Sources),
+    Project = project{path:First, files:Paths, sources:Sources}.
+
+project_paths(File, Paths) :-
+    (   atomic(File),
+        exists_directory(File)
+    ->  absolute_file_name(File, Directory, [file_type(directory)]),
+        findall(Path, directory_member(Directory, Path, [extensions([pl, prolog, pro]), recursive(true), access(read)]),
+                Paths0),
+        sort(Paths0, Paths),
+        (   Paths == []
+        ->  existence_error(prolog_file, File)
+        ;   true
+        )
+    ;   absolute_file_name(File, Path, [access(read), file_type(prolog)]),
+        Paths = [Path]
+    ).
+
+%   A file of the user's may have changed since it was last looked at.
+
+forget_headers :-
+    retractall(kept_reexports(_, _)),
+    forall(( kept_header(Path, _), \+ is_library_file(Path) ), retractall(kept_header(Path, _))),
+    forall(( nb_current(Variable, _), atom_concat('real source of ', Path, Variable), \+ is_library_file(Path) ),
+           nb_delete(Variable)).
+
+has_module(Path) :-
+    path_header(Path, header(Module, _)),
+    Module \== none.
+
+read_module(First, Path, text(Path, Texts, Operators, Items)) :-
+    line_place(First, Path, Place),
+    first_state(Path, Place, Operators, State0),
+    read_text(Path, State0, State, Items, []),
+    loaded_texts(State, Texts).
+
+read_plain(First, [Path|Paths], text(Path, Texts, Operators, Items)) :-
+    line_place(First, Path, Place),
+    first_state(Path, Place, Operators, State0),
+    read_text(Path, State0, State1, Items, Rest),
+    foldl(read_next(First), Paths, State1-Rest, State-[]),
+    loaded_texts(State, Texts).
+
+read_next(First, Path, State0-Items, State-Rest) :-
+    (   memberchk(_-Path, State0.loaded)
+    ->  State = State0,
+        Items = Rest
+    ;   line_place(First, Path, Place),
+        read_text(Path, State0.put(_{path:Path, place:Place, module:user, file_module:user, conditions:[],
+                                     double_quotes:string, back_quotes:codes, loaded:[user-Path|State0.loaded]}),
+                  State, Items, Rest)
+    ).
+
+line_place(First, Path, Place) :-
+    (   Path == First
+    ->  Place = first
+    ;   Place = Path
+    ).
+
+%   A scratch module has the operators of the text.
+
+first_state(Path, Place, Scratch, State) :-
+    gensym('real source ', Scratch),
+    State = state{path:Path, module:user, file_module:user, scratch:Scratch, double_quotes:string, back_quotes:codes,
+                  conditions:[], flags:[], chr:no, included:no, place:Place, loaded:[user-Path], within:directive}.
+
+loaded_texts(State, Texts) :-
+    pairs_values(State.loaded, Texts).
+
+%!  file_source(+Path, -Source:dict) is semidet.
+%
+%   The source of a file that is not among those asked for. It is kept, since
+%   a file does not change meanwhile. Fails if it cannot be read.
+
+file_source(Path, Source) :-
+    source_variable(Path, Variable),
+    (   nb_current(Variable, Kept)
+    ->  Kept = some(Source)
+    ;   catch(read_module(none, Path, Text), _, fail)
+    ->  text_source([], Text, Source),
+        nb_setval(Variable, some(Source))
+    ;   nb_setval(Variable, none),
+        fail
+    ).
+
+%   Global variables are not copied when they are looked up, as facts are.
+
+source_variable(Path, Variable) :-
+    atom_concat('real source of ', Path, Variable).
+
+%!  file_reexports(+Path, -Imports) is det.
+%
+%   What the file exports again. Few files do, so others are not read for it.
+
+file_reexports(Path, Imports) :-
+    kept_reexports(Path, Imports),
+    !.
+file_reexports(Path, Imports) :-
+    (   catch(read_file_to_string(Path, Text, []), _, fail),
+        sub_string(Text, _, _, _, "reexport"),
+        file_source(Path, Source)
+    ->  Imports = Source.reexports
+    ;   Imports = []
+    ),
+    assertz(kept_reexports(Path, Imports)).
 
 read_text(Path, State0, State, Items, Rest) :-
     setup_call_cleanup(open_text(Path, In),
@@ -84,9 +230,10 @@ no_text(Start, "this text is in UTF-16 or UTF-32: save it as UTF-8") :-
     member(Mark, ["\xFF\\xFE\", "\xFE\\xFF\", "\x0\\x0\\xFE\\xFF\"]),
     sub_string(Start, 0, _, _, Mark),
     !.
-no_text(Start, "this is no text: it has a byte of 0") :-
-    sub_string(Start, _, _, _, "\x0\"),
-    !.
+no_text(Start, "this is no text: it has bytes of 0") :-
+    sub_string(Start, Before, _, _, "\x0\"),
+    !,
+    Before < 1024.              % some texts have one in a comment
 
 skip_interpreter(In) :-
     (   peek_string(In, 2, "#!")
@@ -140,9 +287,9 @@ read_one(In, State, Term, Line) :-
           ( syntax_error_place(Place, Before, Line0, Column),
             message_to_string(error(syntax_error(Error), _), Message),
             Term = '$unread'(place(State.path, Line0, Column, Message)) )),
-    (   State.included == no
+    (   State.place == first
     ->  Line = Line0
-    ;   Line = State.included:Line0
+    ;   Line = State.place:Line0
     ).
 
 %   syntax_error_place(+Place, +Before, -Line, -Column): Before is the line at
@@ -458,32 +605,54 @@ names_what_it_changes(Goal, State) :-
 changes_reading(Goal) :-
     compound(Goal),
     compound_name_arity(Goal, Name, Arity),
-    (   memberchk(Name/Arity, [op/3, set_prolog_flag/2, add_import_module/3, set_base_module/1])
+    (   memberchk(Name/Arity, [op/3, set_prolog_flag/2, create_prolog_flag/3, add_import_module/3, set_base_module/1])
     ->  true
     ;   Goal = import(Import)
     ->  ground(Import),
         Import = _:_/_
+    ;   Goal = set_module(Property0)
+    ->  strip_module(Property0, _, Property),
+        \+ Property \= base(_)
     ;   Name \== '[|]',
         loading(Goal, Spec, _),
         \+ ( Name == autoload, atom(Spec) )        % an option
     ).
 
 may_run(Term, Line, Goal, State0-Items, State-Rest) :-
-    (   Goal = set_prolog_flag(Flag0, _)
-    ->  strip_module(Flag0, M, Flag),
-        (   ( var(Flag) ; memberchk(Flag, [double_quotes, back_quotes, character_escapes]) ),
-            \+ ( nonvar(Flag0), Flag0 = _:_, atom(M), M \== State0.module )
-        ->  (   Term = clause(_)
-            ->  Items = [flags_by_call(Line)|Rest]
-            ;   Items = [doubt(Line, flags)|Rest]
-            )
+    (   ( Goal = set_prolog_flag(Flag0, _) ; Goal = create_prolog_flag(Flag0, _, _) )
+    ->  flag_parts(Flag0, State0, M, Flag),
+        flag_kind(Flag, Kind),
+        (   flag_item(Kind, Flag, Line, Item),
+            \+ of_another_module(Flag, M, State0)
+        ->  flag_items(Term, Kind, Item, Line, Items, Rest)
         ;   Items = Rest
         ),
         State = State0
-    ;   obeyed(Goal, Line, none, State0, State, Items, Rest)
-    ->  true
+    ;   within(Term, Within),
+        obeyed(Goal, Line, none, State0.put(within, Within), State1, Items, Rest)
+    ->  State = State1.put(within, directive)
     ;   State = State0, Items = Rest
     ).
+
+within(Term, Within) :-
+    (   Term = clause(_)
+    ->  Within = clause
+    ;   Within = directive
+    ).
+
+%   A flag that a clause sets: whether a directive calls it is looked for
+%   later, where it concerns the reading. A flag that is not known may be one
+%   of tabling.
+
+flag_items(clause(_), Kind, Item, Line, Items, Rest) :-
+    !,
+    (   Kind == reading
+    ->  Items = [flags_by_call(Line)|Rest]
+    ;   Kind == any
+    ->  Items = [flags_by_call(Line), flag(tabling), flag(printing)|Rest]
+    ;   Items = [Item|Rest]
+    ).
+flag_items(_, _, Item, _, [Item|Rest], Rest).
 
 %   obeyed_in(+Directive, +M, ..): a directive for the module M. What it
 %   declares is of M. Flags are those of the text, as without M.
@@ -520,9 +689,13 @@ obeyed(set_prolog_flag(Flag0, Value), Line, _, State0, State, Items, Rest) :-
     ->  Items = [doubt(Line, unread)|Rest]
     ;   Items = Rest
     ).
-obeyed(set_prolog_flag(Flag0, _), Line, _, State, State, [doubt(Line, flags)|Rest], Rest) :-
-    strip_module(Flag0, _, Flag),
-    Flag == character_escapes.
+obeyed(set_prolog_flag(Flag0, _), Line, _, State, State, [Item|Rest], Rest) :-
+    flag_parts(Flag0, State, M, Flag),
+    \+ of_another_module(Flag, M, State),
+    flag_kind(Flag, Kind),
+    flag_item(Kind, Flag, Line, Item).
+obeyed(create_prolog_flag(Flag, Value, _), Line, In, State0, State, Items, Rest) :-
+    obeyed(set_prolog_flag(Flag, Value), Line, In, State0, State, Items, Rest).
 obeyed(encoding(Encoding), _, In, State, State, Rest, Rest) :-
     set_stream(In, encoding(Encoding)).
 obeyed(expects_dialect(Dialect), Line, _, State, State, Items, Rest) :-
@@ -532,9 +705,7 @@ obeyed(expects_dialect(Dialect), Line, _, State, State, Items, Rest) :-
     ).
 obeyed(include(Spec), Line, _, State0, State, Items, Rest) :-
     (   catch(relative_file(Spec, State0.path, Path), _, fail)
-    ->  file_base_name(Path, Base),
-        read_text(Path, State0.put(_{included:Base, path:Path}), State1, Items, Rest),
-        State = State1.put(_{included:State0.included, path:State0.path})
+    ->  part_of_text(Path, State0, State, Items, Rest)
     ;   State = State0,
         Items = [doubt(Line, include(Spec))|Rest]
     ).
@@ -553,22 +724,46 @@ obeyed(import(Spec), Line, _, State, State, [Item|Rest], Rest) :-
     ).
 obeyed(add_import_module(_, _, _), Line, _, State, State, [doubt(Line, inherits)|Rest], Rest).
 obeyed(set_base_module(_), Line, _, State, State, [doubt(Line, inherits)|Rest], Rest).
+obeyed(set_module(Property0), Line, _, State, State, [doubt(Line, inherits)|Rest], Rest) :-
+    strip_module(Property0, _, Property),
+    \+ Property \= base(_).
 obeyed(Directive, Line, _, State0, State, Items, Rest) :-
     loading(Directive, Spec, Selection),
     !,
-    imported(Spec, Selection, Line, State0, Items, Rest0),
+    imported(Spec, Selection, Line, State0, State1, Items, Rest0),
     (   functor(Directive, reexport, _)
     ->  findall(reexport(F, H, S), between_items(Items, Rest0, import(F, H, S)), Again),
         append(Again, Rest, Rest0)
     ;   Rest0 = Rest
     ),
     (   Spec == library(chr)
-    ->  State = State0.put(chr, yes)
-    ;   State = State0
+    ->  State = State1.put(chr, yes)
+    ;   State = State1
     ).
 obeyed(Directive, _, _, State, State, Items, Rest) :-
     declaration(Directive, Kind, Specs),
     declared_items(Kind, Specs, State.module, State, Items, Rest).
+
+%   Some flags of the reading are those of a module.
+
+flag_parts(Flag0, State, M, Flag) :-
+    (   nonvar(Flag0), Flag0 = M:Flag
+    ->  true
+    ;   M = State.module, Flag = Flag0
+    ).
+
+of_another_module(Flag, M, State) :-
+    atom(M),
+    M \== State.module,
+    memberchk(Flag, [double_quotes, back_quotes, character_escapes, rational_syntax, var_prefix]).
+
+%   flag_item(+Kind, +Flag, +Line, -Item): what comes of a flag that is set.
+
+flag_item(any, _, Line, doubt(Line, flags)).
+flag_item(reading, _, Line, doubt(Line, flags)).
+flag_item(running, Flag, Line, doubt(Line, flag(Flag))).
+flag_item(tabling, _, _, flag(tabling)).
+flag_item(printing, _, _, flag(printing)).
 
 %   Where it is not known whether a declaration is loaded, what it changes is
 %   conditional.
@@ -618,12 +813,13 @@ declared(Kind, [A|B], Module, Item) :-
     (   declared(Kind, A, Module, Item)
     ;   declared(Kind, B, Module, Item)
     ).
-declared(tabled, as(Spec, Options), Module, tabled(Predicate, Kind)) :-
+declared(tabled, as(Spec, Options), Module, Item) :-
     !,
-    declared(tabled, Spec, Module, tabled(Predicate, Kind0)),
-    (   nonvar(Options), Options == variant
-    ->  Kind = Kind0
-    ;   Kind = moded
+    declared(tabled, Spec, Module, Item0),
+    (   Item0 = tabled(Predicate, _),
+        \+ ( nonvar(Options), Options == variant )
+    ->  Item = tabled(Predicate, moded)
+    ;   Item = Item0
     ).
 declared(Kind, as(Spec, _), Module, Item) :-
     !,
@@ -650,12 +846,45 @@ declared(Kind, Name/Arity, Module, Item) :-
     integer(Arity),
     !,
     declared_item(Kind, Module:Name/Arity, Item).
-declared(tabled, Head, Module, tabled(Module:Name/Arity, Kind)) :-
+declared(tabled, Head, Module, Item) :-
     callable(Head),
     functor(Head, Name, Arity),
     (   arg(_, Head, Argument), nonvar(Argument)
     ->  Kind = moded
     ;   Kind = plain
+    ),
+    (   Item = tabled(Module:Name/Arity, Kind)
+    ;   arg(_, Head, Join),
+        nonvar(Join),
+        joining_goal(Join, Goal),
+        Item = joins(Module:Name/Arity, Goal)
+    ).
+
+%   joining_goal(+Mode, -Goal): the goal that tabling calls for two answers.
+
+joining_goal(lattice(Join), Goal) :-
+    general_goal(Join, 3, Goal).
+joining_goal(po(Order), Goal) :-
+    general_goal(Order, 2, Goal).
+
+general_goal(Join, _, Join) :-
+    var(Join),
+    !.
+general_goal(M:Join, Arity, M:Goal) :-
+    !,
+    general_goal(Join, Arity, Goal).
+general_goal(Name/Arity, _, Goal) :-
+    atom(Name),
+    integer(Arity),
+    !,
+    functor(Goal, Name, Arity).
+general_goal(Join, Arity, Goal) :-
+    callable(Join),
+    functor(Join, Name, Arity0),
+    (   Arity0 =:= Arity
+    ->  functor(Goal, Name, Arity)
+    ;   More is Arity0 + Arity,
+        functor(Goal, Name, More)
     ).
 
 declared_item(dynamic, Predicate, dynamic(Predicate)).
@@ -690,23 +919,45 @@ loading(load_files(Spec), Spec, all).
 loading(load_files(Spec, _), Spec, all).
 loading([Spec|Specs], [Spec|Specs], all).
 
-imported(Spec, _, Line, _, [doubt(Line, loads(Spec))|Rest], Rest) :-
+imported(Spec, _, Line, State, State, [doubt(Line, loads(Spec))|Rest], Rest) :-
     \+ ground(Spec),
     !.
-imported([], _, _, _, Rest, Rest) :- !.
-imported([Spec|Specs], Selection, Line, State, Items, Rest) :-
+imported([], _, _, State, State, Rest, Rest) :- !.
+imported([Spec|Specs], Selection, Line, State0, State, Items, Rest) :-
     !,
-    imported(Spec, Selection, Line, State, Items, More),
-    imported(Specs, Selection, Line, State, More, Rest).
-imported(_:Spec, Selection, Line, State, Items, Rest) :-
+    imported(Spec, Selection, Line, State0, State1, Items, More),
+    imported(Specs, Selection, Line, State1, State, More, Rest).
+imported(_:Spec, Selection, Line, State0, State, Items, Rest) :-
     !,
-    imported(Spec, Selection, Line, State, Items, Rest).
-imported(Spec, Selection, _, State, [import(Path, Header, Selection)|Rest], Rest) :-
-    module_header(Spec, State.path, Path, Header),
+    imported(Spec, Selection, Line, State0, State, Items, Rest).
+imported(Spec, Selection, _, State0, State, Items, Rest) :-
+    module_header(Spec, State0.path, Path, Header),
     !,
-    header(_, Exports) = Header,
-    declare_operators(Exports, State.scratch).
-imported(Spec, Selection, _, _, [import(Spec, header(none, []), Selection)|Rest], Rest).
+    Header = header(Module, Exports),
+    (   Module == none,
+        State0.within == directive
+    ->  loaded_text(Path, State0, State, Items, Rest)
+    ;   State = State0,
+        Items = [import(Path, Header, Selection)|Rest],
+        declare_operators(Exports, State0.scratch)
+    ).
+imported(Spec, Selection, _, State, State, [import(Spec, header(none, []), Selection)|Rest], Rest).
+
+%   A file without a module becomes a part of the text that loads it, once for
+%   each module.
+
+loaded_text(Path, State0, State, Items, Rest) :-
+    (   memberchk(State0.module-Path, State0.loaded)
+    ->  State = State0,
+        Items = Rest
+    ;   part_of_text(Path, State0, State1, Items, Rest),
+        State = State1.put(_{module:State0.module, file_module:State0.file_module})
+    ).
+
+part_of_text(Path, State0, State, Items, Rest) :-
+    Loaded = [State0.module-Path|State0.loaded],
+    read_text(Path, State0.put(_{included:yes, place:Path, path:Path, loaded:Loaded}), State1, Items, Rest),
+    State = State1.put(_{included:State0.included, place:State0.place, path:State0.path}).
 
 %!  module_header(+Spec, +From, -Path, -Header) is semidet.
 %
@@ -715,16 +966,39 @@ imported(Spec, Selection, _, _, [import(Spec, header(none, []), Selection)|Rest]
 
 module_header(Spec, From, Path, Header) :-
     catch(relative_file(Spec, From, Path), _, fail),
+    path_header(Path, Header).
+
+path_header(Path, Header) :-
     (   kept_header(Path, Kept)
     ->  Header = Kept
     ;   read_header(Path, Header),
         assertz(kept_header(Path, Header))
     ).
 
-relative_file(Spec, From, Path) :-
+%   Files of SWI-Prolog's library name each other by aliases that the library
+%   makes when it is loaded.
+
+relative_file(Spec0, From, Path) :-
+    (   library_alias(Spec0, Spec),
+        is_library_file(From)
+    ->  true
+    ;   Spec = Spec0
+    ),
     absolute_file_name(Spec, Path,
                        [ file_type(prolog), access(read), relative_to(From),
                          file_errors(fail) ]).
+
+library_alias(chr(File), library(chr/File)).
+library_alias(pldoc(File), library(pldoc/File)).
+
+%!  is_library_file(+Path) is semidet.
+%
+%   Path is of SWI-Prolog's own files.
+
+is_library_file(Path) :-
+    atom(Path),
+    current_prolog_flag(home, Home),
+    sub_atom(Path, 0, _, _, Home).
 
 read_header(Path, Header) :-
     setup_call_cleanup(open_text(Path, In),
@@ -759,7 +1033,7 @@ before_module(Directive, In) :-
 
 %   The source of the items.
 
-source_of(Path, Items, Source) :-
+text_source(Wide, text(Path, Texts, Operators, Items), Source) :-
     (   memberchk(module(Module, Exports0), Items)
     ->  convlist(exported, Exports0, Exports)
     ;   Module = user, Exports = []
@@ -767,10 +1041,6 @@ source_of(Path, Items, Source) :-
     findall(P-clause(L, H, B), member(clause(P, L, H, B), Items), Pairs0),
     asserted(Items, Module, Asserted),
     findall(P-clause(L, H, B), member(asserts(P, L, H, B), Asserted), Pairs1),
-    append(Pairs0, Pairs1, Pairs),
-    keysort(Pairs, Sorted),
-    group_pairs_by_key(Sorted, Groups),
-    list_to_assoc(Groups, Clauses),
     collected(P, member(dynamic(P), Items), Dynamic0),
     collected(P, member(dynamic(P), Asserted), Dynamic1),
     ord_union_(Dynamic0, Dynamic1, Dynamic),
@@ -783,26 +1053,46 @@ source_of(Path, Items, Source) :-
     collected(P, member(transparent(P), Items), Transparent),
     findall(import(F, H, S), member(import(F, H, S), Items), Imports),
     findall(import(F, H, S), member(reexport(F, H, S), Items), Reexports),
-    findall(P-clause(0, H, true), member(added(P, H), Asserted), Pairs2),
-    append(Pairs0, Pairs2, Expanding),
-    findall(expansion(K, T), expansion_of(Expanding, Module, K, T), Expansions),
+    findall(P-clause(L, H, true), member(added(P, L, H), Asserted), Pairs2),
+    partition(known_expansion(Items), Pairs0, Known, Expanding0),
+    append(Expanding0, Pairs2, Expanding),
+    findall(expansion(K, T), own_expansion(Path, Expanding, Module, K, T), Expansions0),
+    findall(Expansion, ( member(Other-Expansion, Wide), Other \== Path ), Expansions1),
+    append(Expansions0, Expansions1, Expansions),
+    findall(Result, expanded(Items, Known, Module, Expansions, Result), Results),
+    findall(P-clause(L, H, B), member(clause(P, L, H, B), Results), Pairs3),
+    append([Pairs0, Pairs1, Pairs3], Pairs),
+    keysort(Pairs, Sorted),
+    group_pairs_by_key(Sorted, Groups),
+    list_to_assoc(Groups, Clauses),
     findall(doubt(L, D), member(doubt(L, D), Items), Doubts0),
     findall(Place, member(unread(Place), Items), Unread),
-    findall(doubt(L, D), rewritten_clause(Items, Expansions, L, D), Doubts1),
+    findall(doubt(L, D),
+            (   \+ looked_at(Path, Module), rewritten_clause(Items, Expansions, L, D)
+            ;   member(doubt(L, D), Results)
+            ),
+            Doubts1),
     findall(doubt(L, flags), flags_by_call(Items, Clauses, L), Doubts2),
     findall(doubt(L, asserts), member(unknown_assert(L), Asserted), Adds0),
     sort(Adds0, Adds),
-    append([Doubts0, Doubts1, Doubts2], Doubts),
+    append(Pairs, Pairs2, Written),
+    file_doubts(Items, Written, Doubts3),
+    append([Doubts0, Doubts1, Doubts2, Doubts3], Doubts),
+    findall(directive(L, M, D), member(directive(L, M, D), Items), Directives),
+    mentions(Items, Mentions),
+    collected(K, member(flag(K), Items), Flags),
+    findall(P-G, member(joins(P, G), Items), Joins),
     (   member(raw(_, Raw), Items), has_atom(Raw, format_predicate)
     ->  Letters = yes
     ;   Letters = no
     ),
-    Source = source{path:Path, module:Module, exports:Exports, clauses:Clauses, dynamic:Dynamic,
+    Source = source{path:Path, texts:Texts, operators:Operators, module:Module, exports:Exports, clauses:Clauses, dynamic:Dynamic,
                     multifile:Multifile, conditional:Conditional, tabled:Tabled, meta:Meta,
                     imports:Imports, reexports:Reexports, arithmetic:Arithmetic, redefined:Redefined,
                     transparent:Transparent,
                     expansions:Expansions, letters:Letters,
-                    doubts:Doubts, unread:Unread, adds:Adds}.
+                    doubts:Doubts, unread:Unread, adds:Adds, directives:Directives, mentions:Mentions, flags:Flags,
+                    joins:Joins}.
 
 has_atom(Term, Name) :-
     sub_term(Sub, Term),
@@ -832,9 +1122,9 @@ exported(Name//Arity0, Name/Arity) :-
 %   What a file rewrites when it is loaded: the first arguments of its own
 %   term_expansion and goal_expansion.
 
-expansion_of(Pairs, Module, Kind, Pattern) :-
+expansion_of(Pairs, Modules, Kind, Pattern) :-
     member((M:Name/_)-clause(_, Head, _), Pairs),
-    memberchk(M, [user, system, Module]),
+    memberchk(M, Modules),
     expansion_kind(Name, Kind),
     arg(1, Head, Pattern0),
     (   Pattern = Pattern0
@@ -842,8 +1132,122 @@ expansion_of(Pairs, Module, Kind, Pattern) :-
         Pattern0 = _:Pattern
     ).
 
+own_expansion(Path, Pairs, Module, Kind, Pattern) :-
+    \+ looked_at(Path, Module),
+    expansion_of(Pairs, [user, system, Module], Kind, Pattern).
+
+%   What these modules of the library rewrite of their own was looked at.
+%   apply: facts for library(sandbox) come of it. clpfd: its three facts become clauses of predicates that have none in the
+%   text; constraints become tests before the call of the constraint; (cis)/2
+%   and its like are not defined, so they are assumed to end.
+
+looked_at(Path, Module) :-
+    memberchk(Module, [apply, clpfd]),
+    is_library_file(Path).
+
+%   wide_expansion(+Items, -Kind, -Pattern): what a file rewrites of others.
+
+wide_expansion(Items, Kind, Pattern) :-
+    member(clause(M:PI, L, H, B), Items),
+    expansion_of([(M:PI)-clause(L, H, B)], [user, system], Kind, Pattern).
+
 expansion_kind(term_expansion, term).
 expansion_kind(goal_expansion, goal).
+
+%   known_expansion(+Items, +Pair): a clause of the file's own term_expansion
+%   of which it is known what comes of a term: clauses that are instances of
+%   some that are in its text.
+
+known_expansion(Items, (_:term_expansion/2)-clause(_, Head, Body)) :-
+    arg(1, Head, Pattern),
+    nonvar(Pattern),
+    arg(2, Head, Out),
+    instances(Out, Body, Items, Results),
+    forall(member(Result, Results), catch(plain_clause(Result, user, _, _, _), _, fail)).
+
+%   instances(+Out, +Body, +Items, -Results): once Body has succeeded, Out is
+%   an instance of one of Results, or a list of such.
+
+instances(Out, Body, Items, Results) :-
+    conjuncts(Body, Goals, []),
+    instances_of(Out, Goals, Items, Results).
+
+instances_of(Out, Goals, Items, Results) :-
+    (   var(Out)
+    ->  select(Goal, Goals, Others),
+        nonvar(Goal),
+        (   gives_list(Goal, Out, Items, Results)
+        ;   Goal = (A = B),
+            A == Out,
+            nonvar(B),
+            instances_of(B, Others, Items, Results)
+        )
+    ;   Out = [First|More]
+    ->  instances_of(First, Goals, Items, Results0),
+        instances_of(More, Goals, Items, Results1),
+        append(Results0, Results1, Results)
+    ;   Out == []
+    ->  Results = []
+    ;   Out \= (:- _),
+        Results = [Out]
+    ),
+    !.
+
+conjuncts(Body, Goals, Rest) :-
+    (   nonvar(Body),
+        Body = (A, B)
+    ->  conjuncts(A, Goals, More),
+        conjuncts(B, More, Rest)
+    ;   Goals = [Body|Rest]
+    ).
+
+gives_list(findall(Template, Goal, List), Out, Items, Results) :-
+    List == Out,
+    (   nonvar(Template)
+    ->  Results = [Template]
+    ;   nonvar(Goal),
+        Goal =.. [Name|Args],
+        nth1(Place, Args, Arg),
+        Arg == Template,
+        head_arguments(Name, Args, Place, Items, Results)
+    ).
+gives_list(maplist(Closure, _, List), Out, Items, Results) :-
+    List == Out,
+    \+ member(clause(_:maplist/3, _, _, _), Items),
+    atom(Closure),
+    head_arguments(Closure, [_, _], 2, Items, Results).
+
+head_arguments(Name, Args, Place, Items, Results) :-
+    length(Args, Arity),
+    findall(Result,
+            ( member(clause(_:Name/Arity, _, Head, _), Items), arg(Place, Head, Result) ),
+            Results),
+    \+ member(dynamic(_:Name/Arity), Items),
+    \+ member(multifile(_:Name/Arity), Items),
+    Results = [_|_],
+    forall(member(Result, Results), nonvar(Result)).
+
+%   expanded(+Items, +Known, +Module, +Expansions, -Result): a clause
+%   that comes of a term, or a doubt where that may be rewritten again.
+
+expanded(Items, Known, Module, Expansions, Found) :-
+    member(raw(Line, Term), Items),
+    \+ expansion_clause(Term),
+    member(_-clause(_, Head0, Body0), Known),
+    arg(1, Head0, Pattern0),
+    \+ Term \= Pattern0,
+    copy_term(Head0-Body0, Head-Body),
+    arg(1, Head, Term),
+    arg(2, Head, Out),
+    instances(Out, Body, Items, Results),
+    member(Result, Results),
+    Result \== end_of_file,
+    (   is_rewritten(Expansions, Result)
+    ->  Found = doubt(Line, rewritten)
+    ;   plain_clause(Result, Module, M, ResultHead, ResultBody),
+        functor(ResultHead, Name, Arity),
+        Found = clause(M:Name/Arity, Line, ResultHead, ResultBody)
+    ).
 
 %   Flags that a clause sets, if a directive may call one of the clauses.
 
@@ -872,6 +1276,9 @@ runs_goals(Directive) :-
 rewritten_clause(Items, Expansions, Line, rewritten) :-
     member(raw(Line, Term), Items),
     \+ expansion_clause(Term),
+    is_rewritten(Expansions, Term).
+
+is_rewritten(Expansions, Term) :-
     member(expansion(term, Pattern), Expansions),
     \+ Term \= Pattern.
 
@@ -882,15 +1289,22 @@ expansion_clause(Term) :-
 
 
 %   Clauses that the file's own goals add: asserts(Predicate,Line,Head,Body)
-%   for a rule, dynamic(Predicate), and unknown_assert(Line) where a clause
+%   for a rule, added(Predicate,Line,Head) for each clause, dynamic(Predicate),
+%   and unknown_assert(Line) where a clause
 %   that is added is not known.
 
 asserted(Items, Module, Asserted) :-
     findall(Found, asserted_in(Items, Module, Found), Asserted).
 
 asserted_in(Items, _, Found) :-
-    member(clause(M:_, Line, _, Body), Items),
-    asserted_by(Body, M, Line, Found).
+    member(clause(M:_, Line, Head, Body), Items),
+    (   asserted_by(Body, M, Line, Found)
+    ;   sub_term(Name, Head),           % what a fact may give to a call
+        Name \== Head,
+        atom(Name),
+        adds_name(Name),
+        Found = unknown_assert(Line)
+    ).
 asserted_in(Items, _, Found) :-
     member(directive(Line, M, Goal), Items),
     asserted_by(Goal, M, Line, Found).
@@ -905,7 +1319,7 @@ asserted_by(Body, Module, Line, Found) :-
         ->  (   more_fits(More), atom(Context), catch(clause_parts(Clause, Context, M, Head, B), _, fail)
             ->  functor(Head, N, A),
                 (   Found = dynamic(M:N/A)
-                ;   Found = added(M:N/A, Head)
+                ;   Found = added(M:N/A, Line, Head)
                 ;   B \== true,
                     B \== (true, true),
                     Found = asserts(M:N/A, Line, Head, B)

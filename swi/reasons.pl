@@ -36,7 +36,8 @@ certificate.
 :- use_module(library(yall)).
 :- use_module(answer_text).
 :- use_module(places).
-:- use_module(real_goals, [pure_term/2, source_of/3]).
+:- use_module(real_goals, [pure_term/2]).
+:- use_module(real_modules, [root_source/2, source_of/3]).
 
 %!  reasoning(+Known:dict, -Reasoning:dict) is det.
 %
@@ -54,7 +55,7 @@ reasoning(Known, Reasoning) :-
     ground_rows(First.facts, ByName, Grounds),
     first_numbers(Known.program, 1, Numbers0),
     list_to_assoc(Numbers0, Numbers),
-    Reasoning = reasoning{source:Known.source, program:Known.program, clauses:ClausesOf, modes:First.modes,
+    Reasoning = reasoning{project:Known.project, source:Known.source, program:Known.program, clauses:ClausesOf, modes:First.modes,
                           found:Known.found.modes, given_up:GivenUp, notes:Notes, by:First.by,
                           components:ComponentOf, grounds:Grounds, numbers:Numbers}.
 
@@ -250,8 +251,13 @@ inner_call(at(Number, Goal), Known, Callee) :-
 
 is_own(Key, Known) :-
     Key = _:_,
-    source_of(Known.source, Key, Source),
-    Source.path == Known.source.path.
+    source_of(Known.project, Key, Source),
+    is_root(Source, Known).
+
+is_root(Source, Known) :-
+    root_source(Known.project, Root),
+    Root.path == Source.path,
+    !.
 
 
 %   seen_call(+Known, +At, -Seen:dict): a call of the pure program as it stands in
@@ -267,30 +273,50 @@ seen_goal(Known, Key, clause(Args, Goals, Place), GoalNumber, Seen) :-
     named_key(Key, Named),
     shown_key(Callee, Known, Shown),
     (   Named = _:_,
-        source_of(Known.source, Named, Source)
+        source_of(Known.project, Named, Source)
     ->  true
     ;   Source = Known.source
     ),
-    place_of_line(Place, Source.path, Path, Line0, Column0),
-    (   Source.path == Known.source.path
+    place_of_line(Place, Known.project.path, Path, Line0, Column0),
+    (   is_root(Source, Known)
     ->  Own = true
     ;   Own = false
     ),
-    Seen0 = seen{key:Callee, shown:Shown, path:Path, main:Known.source.path, own:Own, pure:clause(Args, Goals)},
-    named_key(Callee, CalleeNamed),
-    CalleeNamed = _:CalleePI,
+    Seen0 = seen{key:Callee, shown:Shown, path:Path, main:Known.project.path, own:Own, pure:clause(Args, Goals)},
     Named = _:NamedPI,
     (   clause_at(Path, Line0, Source.operators, NamedPI, Clause),
-        same_name_before(Goals, GoalNumber, CalleePI, Before),
-        occurrence_of(Clause, CalleePI, CallArgs, Before, Goal, Line-Column)
+        same_name_before(Goals, GoalNumber, Callee, Before),
+        written_as(Callee, WrittenPI),
+        occurrence_of(Clause, WrittenPI, CallArgs, Before, Goal, Line-Column)
     ->  lost_variables(Clause, Callee, Goal, CallArgs, Args-Goals, Lost),
-        Seen = Seen0.put(_{line:Line, column:Column, goal:Goal, clause:Clause, lost:Lost, arguments:CallArgs})
+        Seen1 = Seen0.put(_{line:Line, column:Column, goal:Goal, clause:Clause, lost:Lost, arguments:CallArgs}),
+        (   Callee = prelude(_)
+        ->  Seen = Seen1.put(shown, WrittenPI)
+        ;   Seen = Seen1
+        )
     ;   Seen = Seen0.put(_{line:Line0, column:Column0, goal:none, clause:none, lost:[], arguments:CallArgs})
     ).
 
+%   written_as(+Key, -PI): what the text has for a call of Key.
+
+written_as(prelude(Name/_), PI) :-
+    !,
+    prelude_of(Name, PIs),
+    member(PI, PIs).
+written_as(Key, PI) :-
+    named_key(Key, _:PI).
+
+prelude_of(member, [memberchk/2, predsort/3]).
+prelude_of(nth, [nth0/3, nth1/3]).
+prelude_of(sort, [sort/2, sort/4, list_to_set/2, list_to_ord_set/2, predsort/3]).
+prelude_of(permute, [msort/2, keysort/2]).
+prelude_of(length, [length/2]).
+prelude_of(repeat, [repeat/0, between/3]).
+
 %   How many goals before this one have the same name.
 
-same_name_before(Goals, GoalNumber, PI, Before) :-
+same_name_before(Goals, GoalNumber, Callee, Before) :-
+    named_key(Callee, _:PI),
     findall(I,
             ( nth1(I, Goals, call(Key, _)),
               I < GoalNumber,
@@ -376,7 +402,7 @@ call_text(Seen, Text) :-
     format(atom(Text), "~q at ~w", [Shown, Place]).
 
 line_shown(Known, Path, Line0, Line) :-
-    line_of(Path, Known.source.path, Line0, Line).
+    line_of(Path, Known.project.path, Line0, Line).
 
 line_of(Path, Main, Line0, Line) :-
     (   Path == Main
@@ -629,6 +655,7 @@ named_key(special(Key, _), Named) :-
     !,
     named_key(Key, Named).
 named_key(prelude(PI), system:PI) :- !.
+named_key(directives, file) :- !.
 named_key(Key, Key).
 
 %!  shown(+Key, +Module, -Shown) is det.

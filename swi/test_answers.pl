@@ -284,6 +284,9 @@ test(lambda_without_its_global_variables, Places == [7-29]) :-
     reason_of(Text, fires/2, calls(7, apply:maplist/2), Sentence, Places),
     has_text(Sentence, "calls holds/2, which needs argument 2 ground"),
     has_text(Sentence, "`S` is a new variable each time: {S}/[..]>>.. shares it").
+test(test_that_is_a_search, Places == [2-18]) :-
+    reason_of("q(_, _).\np(X) :- q(X, Y), memberchk(a, Y).\n", p/1, needs([call(2, memberchk/2, [[2]])]), Text, Places),
+    has_text(Text, "memberchk/2 at 2:18 needs argument 2 ground, and `Y` is not sure to be").
 test(lambda_with_its_global_variables, Sets == [[1]]) :-
     rules("{S}/[F]", Text),
     with_file(Text, File, cti_file_modes(File, Modes, _)),
@@ -497,10 +500,7 @@ test(some_files, Status == 5) :-
     with_file("p(a).\n", A,
               with_file("q(b.\nr(c).\n", B,
                         run([A, B], Status, Output, _))),
-    format(string(Headings), "~n~w~n~n1 ", [A]),
-    has_text(Output, Headings),
     has_text(Output, "p/1"),
-    has_text(Output, B),
     has_text(Output, "r/1").
 test(status_of_a_question, Statuses == [0, 1, 7]) :-
     text(append, Text),
@@ -525,7 +525,7 @@ test(unread_clause, [forall(member(Text-Place, [ "p(X) :- q(X)\nq(a).\nr(b).\n"-
     has_text(Output, "r/1").
 test(binary, Status-Output == 5-"") :-
     with_file("\x7f\ELF\x0\\x1\\x2\\xFF\", octet, File, run([File], Status, Output, Messages)),
-    format(string(Expected), "~w:1:1: error: this is no text: it has a byte of 0~n", [File]),
+    format(string(Expected), "~w:1:1: error: this is no text: it has bytes of 0~n", [File]),
     Messages == Expected.
 test(utf16, [forall(member(Encoding, [unicode_le, unicode_be])), Status-Output == 5-""]) :-
     with_file("p(a).\n", Encoding, File, run([File], Status, Output, Messages)),

@@ -203,7 +203,7 @@ test(number_of_zero_arguments, Sets == [[]]) :-
 test(list_of_clauses) :-
     is_open("p(a).\n[(p(X) :- p(X)), q(b)].\n", p/1).
 test(declaration_of_zero_arguments, Sets == [[]]) :-
-    said(":- meta_predicate f().\n:- foo().\np(a).\n", p/1, Sets, []).
+    said(":- meta_predicate f().\n:- foo().\np(a).\n", p/1, Sets, [directive(external(foo/0))]).
 test(names) :-
     is_open("'it''s \\\\ é'(X) :- '='(X).\n'='(X) :- 'it''s \\\\ é'(X).\np(X) :- '='(X).\n", p/1).
 test(kept_names) :-
@@ -293,7 +293,7 @@ test(operators_within_a_directive) :-
     is_open(":- catch(op(700, xfx, ===>), _, true).\nX ===> Y :- X ===> Y.\np(X) :- X ===> X.\n", p/1).
 test(operators_of_a_library) :-
     said(":- use_module(library(clpfd)).\np(X) :- X #> 3.\n", p/1, _, Doubts),
-    memberchk(external(clpfd:(#>)/2), Doubts).
+    memberchk(risk(waits, put_attr/3), Doubts).
 test(tests_of_a_unit) :-
     is_open(":- begin_tests(u).\ntest(a) :- p(a).\n:- end_tests(u).\np(X) :- p(X).\n", plunit_u:test/1).
 test(closure_in_data) :-
@@ -355,6 +355,45 @@ test(table_of_facts, Sets == [[]]) :-
     findall(Line, ( between(1, 20000, N), format(string(Line), "p(a~d, [b], \"x\").\n", [N]) ), Lines),
     atomics_to_string(Lines, Text),
     said(Text, p/3, Sets, []).
+test(term_expansion) :-
+    is_open("term_expansion(p(X), (p(X) :- p(X))).\np(_).\n", p/1).
+test(term_expansion_with_a_module) :-
+    is_open(":- module(m, []).\nuser:term_expansion(m:p(X), (p(X) :- p(X))).\nm:p(a).\n", p/1).
+test(expansion_of_the_end) :-
+    is_open("term_expansion(end_of_file, [(p(X) :- p(X)), end_of_file]).\np(a).\n", p/1).
+test(directive_expansion) :-
+    is_open("term_expansion((:- d(X)), (p(X) :- p(X))).\np(_).\n:- d(_).\n", p/1).
+test(term_expansion_by_findall) :-
+    is_open("term_expansion(p(X), Cs) :- findall((p(Y) :- p(Y)), member(Y, [X]), Cs).\np(a).\n", p/1).
+test(term_expansion_by_findall_of_heads) :-
+    is_open("term_expansion(p(x), Cs) :- findall(C, one(C), Cs).\none((p(X) :- p(X))).\np(x).\n", p/1).
+test(term_expansion_by_maplist) :-
+    is_open("term_expansion(p(x), Cs) :- L = [a], maplist(one, L, Cs).\none(_, (p(X) :- p(X))).\np(x).\n", p/1).
+test(term_expansion_of_facts, Sets-Doubts == [[]]-[]) :-
+    said("term_expansion(p(x), Cs) :- findall(p(Y), member(Y, [a, b]), Cs).\np(x).\nq(Y) :- p(Y).\n", q/1, Sets, Doubts).
+test(plain_file) :-
+    tmp_file(plain, Base),
+    file_name_extension(Base, pl, File),
+    setup_call_cleanup(open(File, write, Out), write(Out, "append(X, Y, Z) :- append(X, Y, Z).\n"), close(Out)),
+    format(string(Text), ":- ensure_loaded('~w').\np(X) :- append([], [], X).\n", [File]),
+    is_open(Text, p/1),
+    delete_file(File).
+test(module_that_exports_again) :-
+    tmp_file(again, Base),
+    file_name_extension(Base, pl, File),
+    file_base_name(Base, Name0),
+    atom_concat(inner, Name0, Inner),
+    file_directory_name(File, Directory),
+    directory_file_path(Directory, Inner, InnerBase),
+    file_name_extension(InnerBase, pl, InnerFile),
+    setup_call_cleanup(open(InnerFile, write, Out1),
+                       format(Out1, ":- module(inner, [append/3]).~nappend(X, Y, Z) :- append(X, Y, Z).~n", []), close(Out1)),
+    setup_call_cleanup(open(File, write, Out),
+                       format(Out, ":- module(again, []).~n:- reexport('~w').~n", [InnerFile]), close(Out)),
+    format(string(Text), ":- use_module('~w').\np(X) :- append([], [], X).\n", [File]),
+    is_open(Text, p/1),
+    delete_file(File),
+    delete_file(InnerFile).
 test(included_file) :-
     tmp_file(included, Base),
     file_name_extension(Base, pl, File),
@@ -405,29 +444,6 @@ test(transparent_without_need, Doubts == []) :-
     said(":- module(m, [p/1]).\n:- module_transparent p/1.\np(X) :- context_module(M), ( q(X, M) -> true ; fail ).\nq(_, _).\n", p/1, [[]], Doubts).
 test(other_file) :-
     is_assumed(":- use_module(no_such_file).\np(X) :- append(X, [a], X).\n", p/1, external(none:append/3)).
-test(plain_file) :-
-    tmp_file(plain, Base),
-    file_name_extension(Base, pl, File),
-    setup_call_cleanup(open(File, write, Out), write(Out, "append(X, Y, Z) :- append(X, Y, Z).\n"), close(Out)),
-    format(string(Text), ":- ensure_loaded('~w').\np(X) :- append([], [], X).\n", [File]),
-    is_assumed(Text, p/1, external(none:append/3)),
-    delete_file(File).
-test(module_that_exports_again) :-
-    tmp_file(again, Base),
-    file_name_extension(Base, pl, File),
-    file_base_name(Base, Name0),
-    atom_concat(inner, Name0, Inner),
-    file_directory_name(File, Directory),
-    directory_file_path(Directory, Inner, InnerBase),
-    file_name_extension(InnerBase, pl, InnerFile),
-    setup_call_cleanup(open(InnerFile, write, Out1),
-                       format(Out1, ":- module(inner, [append/3]).~nappend(X, Y, Z) :- append(X, Y, Z).~n", []), close(Out1)),
-    setup_call_cleanup(open(File, write, Out),
-                       format(Out, ":- module(again, []).~n:- reexport('~w').~n", [InnerFile]), close(Out)),
-    format(string(Text), ":- use_module('~w').\np(X) :- append([], [], X).\n", [File]),
-    is_assumed(Text, p/1, external(inner:append/3)),
-    delete_file(File),
-    delete_file(InnerFile).
 test(renamed_import) :-
     is_assumed(":- use_module(library(ugraphs), [vertices/2 as foo]).\n\
 :- use_module(nowhere, [r/2 as append]).\np(X) :- append(X, X).\n",
@@ -459,7 +475,7 @@ test(waiting_goal) :-
 test(attributes) :-
     is_assumed("attr_unify_hook(_, _) :- p(_).\np(X) :- put_attr(X, user, a), X = b.\n", p/1, risk(waits, put_attr/3)).
 test(when) :-
-    is_assumed("p(X) :- when(nonvar(X), p(_)), X = a.\n", p/1, external(when:when/2)).
+    is_assumed("p(X) :- when(nonvar(X), p(_)), X = a.\n", p/1, risk(waits, put_attr/3)).
 test(upper_bound) :-
     is_assumed("p(H) :- between(1, H, _), fail.\n", p/1, bound).
 test(computed_bound, Doubts == []) :-
@@ -502,16 +518,20 @@ test(goal_expansion_of_a_condition) :-
     is_assumed("goal_expansion((_ -> _), loop).\nloop :- loop.\np(X) :- ( X = a -> X = b ; X = c ).\n", p/1, rewritten).
 test(goal_expansion_is_not_of_facts, Doubts == []) :-
     said("goal_expansion(X, X).\np(a).\n", p/1, [[]], Doubts).
-test(term_expansion) :-
-    is_assumed("term_expansion(p(X), (p(X) :- p(X))).\np(_).\n", p/1, rewritten).
-test(term_expansion_with_a_module) :-
-    is_assumed(":- module(m, []).\nuser:term_expansion(m:p(X), (p(X) :- p(X))).\nm:p(a).\n", p/1, rewritten).
+test(unknown_term_expansion) :-
+    is_assumed("term_expansion(p(X), C) :- make(X, C).\nmake(X, (p(X) :- p(X))).\np(_).\n", p/1, rewritten).
+test(unknown_term_expansion_with_a_module) :-
+    is_assumed(":- module(m, []).\nuser:term_expansion(m:p(X), C) :- make(X, C).\nmake(X, (p(X) :- p(X))).\nm:p(a).\n", p/1, rewritten).
 test(term_expansion_of_a_list) :-
     is_assumed("term_expansion([X], (X :- X)).\np(b).\n[p(a)].\n", p/1, rewritten).
-test(expansion_of_the_end) :-
-    is_assumed("term_expansion(end_of_file, [(p(X) :- p(X)), end_of_file]).\np(a).\n", p/1, rewritten).
-test(directive_expansion) :-
-    is_assumed("term_expansion((:- d(X)), (p(X) :- p(X))).\np(_).\n:- d(_).\n", p/1, rewritten).
+test(term_expansion_to_a_directive) :-
+    is_assumed("term_expansion(p(x), (:- assertz((p(X) :- p(X))))).\n:- dynamic p/1.\np(x).\n", p/1, rewritten).
+test(term_expansion_by_clauses_that_are_added) :-
+    is_assumed("term_expansion(p(x), Cs) :- findall(C, one(C), Cs).\n:- dynamic one/1.\none(p(a)).\n\
+:- assertz(one((p(X) :- p(X)))).\np(x).\n", p/1, rewritten).
+test(term_expansion_that_is_rewritten_again) :-
+    is_assumed("term_expansion(p(x), q(a)).\nuser:term_expansion(q(X), C) :- make(X, C).\nmake(_, (p(X) :- p(X))).\np(x).\n",
+               p/1, rewritten).
 test(multifile) :-
     is_assumed(":- multifile q/1.\nq(a).\np(X) :- q(X).\n", p/1, multifile).
 test(undecided_condition) :-
