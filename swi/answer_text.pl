@@ -24,8 +24,8 @@ print_answer(Answer) :-
     ;   format("~nassumed:~n"),
         forall(member(Assumption, Answer.assumptions), print_assumption(Assumption))
     ),
-    format("~nAlways assumed: no cyclic terms, and no attributed variables in the query. Not proved: that the pure program~n\
-covers the file. See docs/real-files.md.~n"),
+    format("~nAlways assumed: no cyclic terms, and no attributed variables in the query. "),
+    format("Not proved: that the pure program~ncovers the file. See docs/real-files.md.~n"),
     print_unchecked(Answer),
     print_unanswered(Answer.unanswered).
 
@@ -52,8 +52,8 @@ print_unchecked(Answer) :-
         Names \== []
     ->  findall(Text, ( member(Name, Names), format(atom(Text), "~q", [Name]) ), Texts),
         atomic_list_concat(Texts, ', ', List),
-        format("Only lists of mappings show modes of ~w: their certificate is not checked, since no command reads it.~n",
-               [List])
+        format("Only lists of mappings show modes of ~w: their certificate is not checked, ", [List]),
+        format("since no command reads it.~n")
     ;   true
     ).
 
@@ -65,7 +65,9 @@ print_reply(Reply, Answer) :-
     format("~w: ~w: ~s~n", [Reply.answer, Reply.query, Reply.text]),
     (   Reply.answer == yes
     ->  findall(Assumption,
-                ( member(Number, Reply.assumptions), member(Assumption, Answer.assumptions), Number == Assumption.number ),
+                ( member(Number, Reply.assumptions),
+                  member(Assumption, Answer.assumptions),
+                  Number == Assumption.number ),
                 Assumptions)
     ;   Assumptions = []
     ),
@@ -78,7 +80,8 @@ print_reply(Reply, Answer) :-
 %   Where several files were asked for, a predicate is said with its file.
 
 print_predicate(Predicate, Files) :-
-    _{file:File, line:Line, name:Name, modes:Modes, reason_text:Reason, assumptions:Numbers, not_shown:NotShown} :< Predicate,
+    _{file:File, line:Line, name:Name, modes:Modes, reason_text:Reason} :< Predicate,
+    _{assumptions:Numbers, not_shown:NotShown} :< Predicate,
     (   Files = [_]
     ->  format("~w~t~14|~q~t~48|", [Line, Name])
     ;   file_shown(File, Shown),
@@ -162,7 +165,8 @@ file_shown(File, Shown) :-
 %   The text of a reason that names no place.
 
 reason_text(large(Count), Text) :-
-    format(string(Text), "the predicates of its recursion have ~d arguments, more than 12: the search was cut short", [Count]).
+    format(string(Text), "the predicates of its recursion have ~d arguments, more than 12: the search was cut short",
+           [Count]).
 reason_text(blown, "the search was given up: its numbers or lists grew too large").
 reason_text(unknown, "no ground arguments make sure that its calls end").
 

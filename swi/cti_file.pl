@@ -196,8 +196,8 @@ known(Project, Program, Prefix, Known, Options) :-
     components(Graph, Components),
     recursion(Components, Graph, Kinds),
     analysed(PureFile, Prefix, Names, Kinds, Found, Options),
-    Known0 = known{project:Project, source:Source, program:Program, pure_file:PureFile, names:Names, graph:Graph, components:Components,
-                   kinds:Kinds, found:Found},
+    Known0 = known{project:Project, source:Source, program:Program, pure_file:PureFile, names:Names, graph:Graph,
+                   components:Components, kinds:Kinds, found:Found},
     reasoning(Known0, Reasoning),
     Known1 = Known0.put(reasoning, Reasoning),
     wanted_patterns(Known1, Wanted),
@@ -243,7 +243,9 @@ answer_predicates(Known, Predicates, Assumptions) :-
     notes_below(Known.program, Project, Known.components, Known.graph, Below),
     findall(Note,
             (   member(Key-_, Own), get_assoc(Key, Below, Notes), member(Note, Notes)
-            ;   member(Source, Project.sources), member(doubt(Line, Doubt), Source.doubts), Note = place(file, Line, Doubt)
+            ;   member(Source, Project.sources),
+                member(doubt(Line, Doubt), Source.doubts),
+                Note = place(file, Line, Doubt)
             ),
             Notes0),
     sort(Notes0, Notes),

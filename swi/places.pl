@@ -29,15 +29,16 @@ forget_places :-
 
 %!  place_of_line(+Place, +Path, -File, -Line, -Column) is det.
 %
-%   Place is a line of Path, or File:Line. Column is where the text of that line
-%   begins, and 1 if it is not known.
+%   Place is a line of Path, or File:Line, where the line is 0 if it is not known.
+%   Column is where the text of that line begins, and 1 if it is not known.
 
 place_of_line(Place, Path, File, Line, Column) :-
-    (   Place = File:Line
+    (   Place = File:Line0
     ->  true
     ;   File = Path,
-        Line = Place
+        Line0 = Place
     ),
+    Line is max(1, Line0),
     first_column(File, Line, Column).
 
 first_column(File, Line, Column) :-

@@ -52,12 +52,18 @@ reasoning(Known, Reasoning) :-
     transposed(Known.names, ByName),
     given_up(First.facts, ByName, GivenUp),
     findall(Key-What, ( member(said(Name, What), First.notes), get_assoc(Name, ByName, Key) ), Notes),
+    findall(Key-What,
+            ( member(Result, Known.found.results),
+              Result.by == length,
+              member(said(Name, What), Result.notes),
+              get_assoc(Name, ByName, Key) ),
+            LengthNotes),
     ground_rows(First.facts, ByName, Grounds),
     first_numbers(Known.program, 1, Numbers0),
     list_to_assoc(Numbers0, Numbers),
-    Reasoning = reasoning{project:Known.project, source:Known.source, program:Known.program, clauses:ClausesOf, modes:First.modes,
-                          found:Known.found.modes, given_up:GivenUp, notes:Notes, by:First.by,
-                          components:ComponentOf, grounds:Grounds, numbers:Numbers}.
+    Reasoning = reasoning{project:Known.project, source:Known.source, program:Known.program, clauses:ClausesOf,
+                          modes:First.modes, found:Known.found.modes, given_up:GivenUp, notes:Notes, by:First.by,
+                          components:ComponentOf, grounds:Grounds, numbers:Numbers, length_notes:LengthNotes}.
 
 transposed(Names, ByName) :-
     findall(Name-Key, member(Key-Name, Names), Pairs0),
@@ -128,12 +134,18 @@ from_note(falls_not(Calls), _, Known, nothing_falls(Shown), Text, Places) :-
 from_note(callee(Call), Component, Known, Reason, Text, Places) :-
     seen_call(Known, Call, Seen),
     called_cause(Seen, Component, Known, Reason, Text, Places).
-from_note(needs(Call, Names, After, _), _, Known, needs([call(Line, Shown, Sets)]), Text, Places) :-
+from_note(needs(Call, Names, After, _), Component, Known, needs([call(Line, Shown, Sets)]), Text, Places) :-
     seen_call(Known, Call, Seen),
     _{line:Line0, shown:Shown, key:Callee, path:Path, column:Column} :< Seen,
     line_shown(Known, Path, Line0, Line),
-    modes_of(Callee, Known, Sets),
-    known_word(Known.by, Word),
+    (   member(Member, Component),
+        memberchk(Member-needs(Call, _, _, _), Known.length_notes),
+        length_sets(Callee, Known, Sets)
+    ->  By = length
+    ;   By = Known.by,
+        modes_of(Callee, Known, Sets)
+    ),
+    known_word(By, Word),
     needs_text(Sets, Needs),
     append(Sets, Needed),
     include(is_lost_in(Needed), Seen.lost, Lost),
@@ -141,7 +153,8 @@ from_note(needs(Call, Names, After, _), _, Known, needs([call(Line, Shown, Sets)
     call_text(Seen, CallText),
     after_text(After, Known, AfterText),
     lost_hint([Seen.put(lost, Lost)], Hint),
-    format(string(Text), "~w needs ~w ~w, and ~w not sure to be~w~s", [CallText, Needs, Word, NamesText, AfterText, Hint]),
+    format(string(Text), "~w needs ~w ~w, and ~w not sure to be~w~s",
+           [CallText, Needs, Word, NamesText, AfterText, Hint]),
     format(string(PlaceText), "this call needs ~w ~w", [Needs, Word]),
     Places = [place(Path, Line0, Column, PlaceText)].
 from_note(unmet(Calls), _, Known, Reason, Text, Places) :-
@@ -413,6 +426,15 @@ line_of(Path, Main, Line0, Line) :-
 
 modes_of(Key, Known, Sets) :-
     get_assoc(Key, Known.modes, Sets).
+
+%   length_sets(+Key, +Known, -Sets): the modes of Key are all by length, so that
+%   it needs no more.
+
+length_sets(Key, Known, Sets) :-
+    get_assoc(Key, Known.found, Found),
+    Found = [_|_],
+    forall(member(found(_, By, _), Found), By == length),
+    findall(Set, member(found(Set, _, _), Found), Sets).
 
 known_word(ground, ground).
 known_word(length, 'known by length').

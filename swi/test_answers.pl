@@ -254,7 +254,7 @@ test(one_call, Reason-Places == nothing_falls([call(2, p/1)])-[2-18]) :-
     has_text(Text, "no known size of its arguments gets smaller at the call of p/1 at 2:18").
 test(need, Reason-Places == needs([call(1, p/1, [[1]])])-[1-18]) :-
     reason_of("r(X) :- s(X, Y), p(Y).\ns(_, _).\np([_|T]) :- p(T).\np([]).\n", r/1, Reason, Text, Places),
-    has_text(Text, "p/1 at 1:18 needs argument 1 ground, and `Y` is not sure to be").
+    has_text(Text, "p/1 at 1:18 needs argument 1 known by length, and `Y` is not sure to be").
 test(call_in_a_disjunction, Reason-Places == calls(2, p/1)-[3-7]) :-
     reason_of("p(X) :- p(X).\nq(X) :- ( a = b\n    ; p(X) ).\n", q/1, Reason0, _, Places),
     (   Reason0 == calls(3, p/1)
@@ -286,7 +286,7 @@ test(lambda_without_its_global_variables, Places == [7-29]) :-
     has_text(Sentence, "`S` is a new variable each time: {S}/[..]>>.. shares it").
 test(test_that_is_a_search, Places == [2-18]) :-
     reason_of("q(_, _).\np(X) :- q(X, Y), memberchk(a, Y).\n", p/1, needs([call(2, memberchk/2, [[2]])]), Text, Places),
-    has_text(Text, "memberchk/2 at 2:18 needs argument 2 ground, and `Y` is not sure to be").
+    has_text(Text, "memberchk/2 at 2:18 needs argument 2 known by length, and `Y` is not sure to be").
 test(lambda_with_its_global_variables, Sets == [[1]]) :-
     rules("{S}/[F]", Text),
     with_file(Text, File, cti_file_modes(File, Modes, _)),
