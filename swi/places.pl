@@ -1,6 +1,7 @@
 :- module(places,
           [ forget_places/0,
             place_of_line/5,            % +Place, +Path, -File, -Line, -Column
+            has_text/2,                 % +File, +Text
             clause_at/5,                % +File, +Line, +Operators, +PI, -Clause
             occurrences/3,              % +Clause, +PI, -Occurrences
             comment_patterns/2,         % +File, -Patterns
@@ -69,24 +70,33 @@ line_count(File, Count) :-
     forall(nth1(Line, Lines, Text1), assertz(kept_line(Line, File, Text1))).
 
 
+%!  has_text(+File, +Text) is semidet.
+%
+%   A line of File has Text in it.
+
+has_text(File, Text) :-
+    line_count(File, _),
+    kept_line(_, File, Line),
+    sub_string(Line, _, _, _, Text),
+    !.
+
 %!  clause_at(+File, +Line, +Operators, +PI, -Clause:dict) is semidet.
 %
 %   Clause is clause{term, positions, names, file, line, text}: the clause of the
 %   predicate PI that begins at Line of File. Operators is the module whose
 %   operators the text has.
 
-most_lines(2000).
-
 clause_at(File, Line, Operators, Name/Arity, Clause) :-
-    lines_from(File, Line, Text),
+    member(Most, [60, 3000]),
+    lines_from(File, Line, Most, Text),
     setup_call_cleanup(open_string(Text, In),
                        clause_in(In, Operators, Name/Arity, Term, Positions, Names),
                        close(In)),
+    !,
     Clause = clause{term:Term, positions:Positions, names:Names, file:File, line:Line, text:Text}.
 
-lines_from(File, Line, Text) :-
+lines_from(File, Line, Most, Text) :-
     line_count(File, Count),
-    most_lines(Most),
     Last is min(Count, Line + Most),
     findall(One, ( between(Line, Last, N), line_text(File, N, One) ), Ones),
     atomic_list_concat(Ones, '\n', Atom),

@@ -390,6 +390,20 @@ test(loop_behind_a_test, Answer == unknown) :-
     asked("p(X) :- X == a, X == b, p(X).\n", 'p(b)', Answer, _).
 test(loop_of_a_dynamic_predicate, Answer == unknown) :-
     asked(":- dynamic p/1.\np(X) :- p(X).\n", 'p(b)', Answer, _).
+test(loop_behind_a_rule_that_commits, Answer == unknown) :-
+    Text = "p(a) => true.\np(X) => p(X).\n",
+    asked(Text, 'p(b)', Answer, _),
+    ends(Text, p(a), yes).
+test(loop_of_rules_beside_others, Answer == no) :-
+    Text = "q(a) => true.\np(X) :- p(X).\n",
+    asked(Text, 'p(b)', Answer, _),
+    ends(Text, p(a), no).
+test(loop_behind_an_expansion, Answer == unknown) :-
+    Text = "goal_expansion(q(X), r(X)).\np(X) :- q(X).\nq(X) :- p(X).\nr(_).\n",
+    asked(Text, 'p(b)', Answer, _),
+    ends(Text, p(a), yes).
+test(clauses_that_are_refused, Answer == unknown) :-
+    asked("p(X) :- atom_length(X, Y), p(Y).\natom_length(X, X).\n", 'p(b)', Answer, _).
 test(loop_of_deep_terms, Answer == no) :-
     Text = "p(0, _).\np(_, 0).\np(s(M), s(N)) :- p(M, s(s(N))), p(s(s(M)), N).\n",
     asked(Text, 'p(b,b)', Answer, _),
