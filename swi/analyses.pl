@@ -20,13 +20,13 @@ The modes of all of them hold, so their union does.
 :- use_module(note_reading).
 
 %   analysis(Analysis, By, Words, Check): cti is asked by Words, the modes that
-%   it finds ask for arguments that are known `By`, and Check says whether there
-%   is a command that checks its certificate. The first one is always asked, and
-%   the others where it leaves something to be found.
+%   it finds ask for arguments that are known `By`, and Check is the command that
+%   checks its certificate, or `none`. The first one is always asked, and the
+%   others where it leaves something to be found.
 
 analysis(term_size, ground, [infer], check).
 analysis(list_size, length, [infer, '--norm', list], check).
-analysis(lists_of_mappings, ground, [lex], no_check).
+analysis(lists_of_mappings, ground, [lex], none).
 
 %!  analysed(+PureFile, +Prefix, +Names, +Kinds, -Found:dict, +Options) is det.
 %
@@ -99,10 +99,10 @@ result(Work, Options, Analysis, Result) :-
     certificate_file(Analysis, Work.prefix, Certificate),
     time_left(Work, Seconds),
     cti_certify(Words, Work.pure, Certificate, Message, [timeout(Seconds)]),
-    (   ( Check == no_check ; option(check(false), Options) )
+    (   ( Check == none ; option(check(false), Options) )
     ->  Checked = false
     ;   time_left(Work, More),
-        cti_check(Work.pure, Certificate, [timeout(More)])
+        cti_check(Work.pure, Certificate, [timeout(More), command(Check)])
     ->  Checked = true
     ;   throw(error(cti_error(internal, "a certificate is not valid"), _))
     ),

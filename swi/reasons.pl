@@ -33,7 +33,6 @@ certificate.
 :- use_module(library(lists)).
 :- use_module(library(occurs)).
 :- use_module(library(pairs)).
-:- use_module(library(yall)).
 :- use_module(answer_text).
 :- use_module(places).
 :- use_module(real_goals, [pure_term/2]).
@@ -696,14 +695,8 @@ given_up(Facts, ByName, GivenUp) :-
               given(Fact, Rest, Predicate, Given),
               get_assoc(Predicate, ByName, Key) ),
             Pairs0),
-    keysort(Pairs0, Pairs1),
-    first_by_key(Pairs1, Pairs),
+    sort(1, @<, Pairs0, Pairs),
     list_to_assoc(Pairs, GivenUp).
-
-first_by_key([], []).
-first_by_key([K-V|Pairs], [K-V|Firsts]) :-
-    exclude({K}/[K1-_]>>(K1 == K), Pairs, Others),
-    first_by_key(Others, Firsts).
 
 nth_fact([Fact|Facts], Facts, Fact).
 nth_fact([_|Facts], Rest, Fact) :-
