@@ -24,8 +24,38 @@ print_answer(Answer) :-
     ;   format("~nassumed:~n"),
         forall(member(Assumption, Answer.assumptions), print_assumption(Assumption))
     ),
-    format("~nAlways assumed: no cyclic terms, and no attributed variables in the query. Not proved: that the pure program~n\
-covers the file. See docs/real-files.md.~n").
+    format("~nAlways assumed: no cyclic terms, and no attributed variables in the query. "),
+    format("Not proved: that the pure program~ncovers the file. See docs/real-files.md.~n"),
+    print_unchecked(Answer),
+    print_unanswered(Answer.unanswered).
+
+print_unanswered([]) :- !.
+print_unanswered(Analyses) :-
+    findall(Text, ( member(Analysis, Analyses), analysis_text(Analysis, Text) ), Texts),
+    atomic_list_concat(Texts, ' and ', List),
+    format("There may be more modes: cti gave no answer in time by ~w (--timeout SECONDS).~n", [List]).
+
+analysis_text(term_size, 'the size of terms') :- !.
+analysis_text(list_size, 'the size of lists') :- !.
+analysis_text(Analysis, Text) :-
+    atomic_list_concat(Words, '_', Analysis),
+    atomic_list_concat(Words, ' ', Text).
+
+%   No command reads a certificate of lists of mappings.
+
+print_unchecked(Answer) :-
+    (   member(certificate{kind:term_size, facts:_, checked:false}, Answer.certificates)
+    ->  format("No certificate was checked.~n")
+    ;   findall(Name,
+                ( member(Predicate, Answer.predicates), _{name:Name, checked:false} :< Predicate ),
+                Names),
+        Names \== []
+    ->  findall(Text, ( member(Name, Names), format(atom(Text), "~q", [Name]) ), Texts),
+        atomic_list_concat(Texts, ', ', List),
+        format("Only lists of mappings show modes of ~w: their certificate is not checked, ", [List]),
+        format("since no command reads it.~n")
+    ;   true
+    ).
 
 %!  print_reply(+Reply:dict, +Answer:dict) is det.
 %
@@ -35,7 +65,9 @@ print_reply(Reply, Answer) :-
     format("~w: ~w: ~s~n", [Reply.answer, Reply.query, Reply.text]),
     (   Reply.answer == yes
     ->  findall(Assumption,
-                ( member(Number, Reply.assumptions), member(Assumption, Answer.assumptions), Number == Assumption.number ),
+                ( member(Number, Reply.assumptions),
+                  member(Assumption, Answer.assumptions),
+                  Number == Assumption.number ),
                 Assumptions)
     ;   Assumptions = []
     ),
@@ -48,7 +80,8 @@ print_reply(Reply, Answer) :-
 %   Where several files were asked for, a predicate is said with its file.
 
 print_predicate(Predicate, Files) :-
-    _{file:File, line:Line, name:Name, modes:Modes, reason_text:Reason, assumptions:Numbers, not_shown:NotShown} :< Predicate,
+    _{file:File, line:Line, name:Name, modes:Modes, reason_text:Reason} :< Predicate,
+    _{assumptions:Numbers, not_shown:NotShown} :< Predicate,
     (   Files = [_]
     ->  format("~w~t~14|~q~t~48|", [Line, Name])
     ;   file_shown(File, Shown),
@@ -132,7 +165,8 @@ file_shown(File, Shown) :-
 %   The text of a reason that names no place.
 
 reason_text(large(Count), Text) :-
-    format(string(Text), "the predicates of its recursion have ~d arguments, more than 12: the search was cut short", [Count]).
+    format(string(Text), "the predicates of its recursion have ~d arguments, more than 12: the search was cut short",
+           [Count]).
 reason_text(blown, "the search was given up: its numbers or lists grew too large").
 reason_text(unknown, "no ground arguments make sure that its calls end").
 

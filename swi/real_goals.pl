@@ -1256,6 +1256,8 @@ pure_compound(Name, Args, Pure) :-
 pure_name(Name, Pure) :-
     (   Name == '$VAR'
     ->  Pure = 'VAR of a term'
+    ;   Name == '.'                   % which is the cell of a list to cti, and not to SWI-Prolog
+    ->  Pure = 'dot of a term'
     ;   atom(Name)
     ->  Pure = Name
     ;   Pure = dict
