@@ -21,17 +21,17 @@ The modes of all of them hold, so their union does.
 :- use_module(note_reading).
 
 %   analysis(Analysis, By, Words, Check): cti is asked by Words, the modes that
-%   it finds ask for arguments that are known `By`, and Check says whether there
-%   is a command that checks its certificate. The first one is always asked, and
-%   the others where it leaves something to be found.
+%   it finds ask for arguments that are known `By`, and Check is the command that
+%   checks its certificate, or `none`. The first one is always asked, and the
+%   others where it leaves something to be found.
 
 analysis(term_size, ground, [infer], check).
 analysis(list_size, length, [infer, '--norm', list], check).
-analysis(lists_of_mappings, ground, [lex], no_check).
+analysis(lists_of_mappings, ground, [lex], none).
 
 %!  analysed(+PureFile, +Prefix, +Names, +Kinds, -Found:dict, +Options) is det.
 %
-%   Found is found{modes, results}: an assoc of each key's list of
+%   Found is found{modes, results, unanswered}: an assoc of each key's list of
 %
 %       found(Arguments, By, Analyses)
 %
@@ -40,9 +40,10 @@ analysis(lists_of_mappings, ground, [lex], no_check).
 %       result{analysis, by, facts, notes, checked, modes}
 %
 %   with its certificate, cti's notes as of notes_read/3, and an assoc of each
-%   key's list of sets. The certificates' names begin with Prefix.
+%   key's list of sets. The certificates' names begin with Prefix. unanswered
+%   has the analyses that gave no answer, or not in time.
 
-analysed(PureFile, Prefix, Names, Kinds, found{modes:Modes, results:Results}, Options) :-
+analysed(PureFile, Prefix, Names, Kinds, found{modes:Modes, results:Results, unanswered:Unanswered}, Options) :-
     option(timeout(Timeout), Options, 12),
     get_time(Now),
     Deadline is Now + Timeout,
@@ -53,9 +54,11 @@ analysed(PureFile, Prefix, Names, Kinds, found{modes:Modes, results:Results}, Op
     ->  concurrent_maplist(outcome(Work, Options), Others, OtherOutcomes)
     ;   OtherOutcomes = []
     ),
-    findall(Result, member(done(Result), [FirstOutcome|OtherOutcomes]), Results),
+    Outcomes = [FirstOutcome|OtherOutcomes],
+    findall(Result, member(done(Result), Outcomes), Results),
+    findall(Analysis, member(failed(Analysis, _), Outcomes), Unanswered),
     (   Results == []
-    ->  FirstOutcome = failed(Error),
+    ->  FirstOutcome = failed(_, Error),
         throw(Error)
     ;   true
     ),
@@ -72,21 +75,21 @@ wanted(Options, Analyses) :-
 
 %   Where each recursive predicate ends for all queries, so do all others.
 
-leaves_something(failed(_), _).
+leaves_something(failed(_, _), _).
 leaves_something(done(Result), Kinds) :-
     gen_assoc(Key, Kinds, recursive),
     get_assoc(Key, Result.modes, Sets),
     Sets \== [[]],
     !.
 
-%   outcome(+Work, +Options, +Analysis, -Outcome): done(Result), or failed(Error)
-%   where cti gives no answer.
+%   outcome(+Work, +Options, +Analysis, -Outcome): done(Result), or
+%   failed(Analysis, Error) where cti gives no answer.
 
 outcome(Work, Options, Analysis, Outcome) :-
     catch(( result(Work, Options, Analysis, Result), Outcome = done(Result) ),
           Error,
-          Outcome = failed(Error)),
-    (   Outcome = failed(Other),
+          Outcome = failed(Analysis, Error)),
+    (   Outcome = failed(_, Other),
         \+ ( Other = error(cti_error(Status, _), _), Status \== internal )
     ->  throw(Other)
     ;   true
@@ -97,10 +100,10 @@ result(Work, Options, Analysis, Result) :-
     certificate_file(Analysis, Work.prefix, Certificate),
     time_left(Work, Seconds),
     cti_certify(Words, Work.pure, Certificate, Message, [timeout(Seconds)]),
-    (   ( Check == no_check ; option(check(false), Options) )
+    (   ( Check == none ; option(check(false), Options) )
     ->  Checked = false
     ;   time_left(Work, More),
-        cti_check(Work.pure, Certificate, [timeout(More)])
+        cti_check(Work.pure, Certificate, [timeout(More), command(Check)])
     ->  Checked = true
     ;   throw(error(cti_error(internal, "a certificate is not valid"), _))
     ),

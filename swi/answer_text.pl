@@ -25,8 +25,38 @@ print_answer(Answer) :-
         forall(member(Assumption, Answer.assumptions), print_assumption(Assumption))
     ),
     print_trusts(Answer.trusts),
-    format("~nAlways assumed: no cyclic terms, and no attributed variables in the query. Not proved: that the pure program~n\
-covers the file. See docs/real-files.md.~n").
+    format("~nAlways assumed: no cyclic terms, and no attributed variables in the query. "),
+    format("Not proved: that the pure program~ncovers the file. See docs/real-files.md.~n"),
+    print_unchecked(Answer),
+    print_unanswered(Answer.unanswered).
+
+print_unanswered([]) :- !.
+print_unanswered(Analyses) :-
+    findall(Text, ( member(Analysis, Analyses), analysis_text(Analysis, Text) ), Texts),
+    atomic_list_concat(Texts, ' and ', List),
+    format("There may be more modes: cti gave no answer in time by ~w (--timeout SECONDS).~n", [List]).
+
+analysis_text(term_size, 'the size of terms') :- !.
+analysis_text(list_size, 'the size of lists') :- !.
+analysis_text(Analysis, Text) :-
+    atomic_list_concat(Words, '_', Analysis),
+    atomic_list_concat(Words, ' ', Text).
+
+%   No command reads a certificate of lists of mappings.
+
+print_unchecked(Answer) :-
+    (   member(certificate{kind:term_size, facts:_, checked:false}, Answer.certificates)
+    ->  format("No certificate was checked.~n")
+    ;   findall(Name,
+                ( member(Predicate, Answer.predicates), _{name:Name, checked:false} :< Predicate ),
+                Names),
+        Names \== []
+    ->  findall(Text, ( member(Name, Names), format(atom(Text), "~q", [Name]) ), Texts),
+        atomic_list_concat(Texts, ', ', List),
+        format("Only lists of mappings show modes of ~w: their certificate is not checked, ", [List]),
+        format("since no command reads it.~n")
+    ;   true
+    ).
 
 print_trusts([]) :- !.
 print_trusts(Trusts) :-
@@ -50,7 +80,9 @@ print_reply(Reply, Answer) :-
     format("~w: ~w: ~s~n", [Reply.answer, Reply.query, Reply.text]),
     (   Reply.answer == yes
     ->  findall(Assumption,
-                ( member(Number, Reply.assumptions), member(Assumption, Answer.assumptions), Number == Assumption.number ),
+                ( member(Number, Reply.assumptions),
+                  member(Assumption, Answer.assumptions),
+                  Number == Assumption.number ),
                 Assumptions)
     ;   Assumptions = []
     ),
@@ -63,7 +95,8 @@ print_reply(Reply, Answer) :-
 %   Where several files were asked for, a predicate is said with its file.
 
 print_predicate(Predicate, Files) :-
-    _{file:File, line:Line, name:Name, modes:Modes, reason_text:Reason, assumptions:Numbers, not_shown:NotShown} :< Predicate,
+    _{file:File, line:Line, name:Name, modes:Modes, reason_text:Reason} :< Predicate,
+    _{assumptions:Numbers, not_shown:NotShown} :< Predicate,
     (   Files = [_]
     ->  format("~w~t~14|~q~t~48|", [Line, Name])
     ;   file_shown(File, Shown),
@@ -147,7 +180,8 @@ file_shown(File, Shown) :-
 %   The text of a reason that names no place.
 
 reason_text(large(Count), Text) :-
-    format(string(Text), "the predicates of its recursion have ~d arguments, more than 12: the search was cut short", [Count]).
+    format(string(Text), "the predicates of its recursion have ~d arguments, more than 12: the search was cut short",
+           [Count]).
 reason_text(blown, "the search was given up: its numbers or lists grew too large").
 reason_text(unknown, "no ground arguments make sure that its calls end").
 
@@ -202,4 +236,5 @@ assumption_text(include(Spec), Text) :-
     format(string(Text), "the included file ~q was not found: it adds no clauses", [Spec]).
 assumption_text(inherits, "what is imported here has no name that the file calls").
 assumption_text(loads(_), "what is loaded is not known: it adds no clauses").
-assumption_text(asserts, "a clause that it adds is not known").
+assumption_text(asserts, "a clause that it adds is not known: it is a fact").
+assumption_text(left_out, "the program that covers the file is too large to have it: it ends").

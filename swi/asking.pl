@@ -23,6 +23,7 @@ A pattern has for each argument
 :- use_module(cti).
 :- use_module(places).
 :- use_module(pure_program).
+:- use_module(real_builtins, [is_protected/1]).
 :- use_module(real_source).
 :- use_module(reasons).
 
@@ -108,7 +109,7 @@ clauses_text(Clauses, Known, Text, Places) :-
 %   one too, by the clauses of these lines, and else `pure`. That is tried for
 %   some queries.
 
-most_queries(24).
+most_queries(60).
 most_clauses(12).
 
 looping(Key, Pattern, Known, Loop) :-
@@ -119,8 +120,9 @@ looping(Key, Pattern, Known, Loop) :-
     list_to_set(Queries0, Queries),
     include(loops_in_pure_program(Key, Known), Queries, Looping),
     Looping \== [],
+    plain_predicates(Key, Known, Plain),
     (   member(Args, Looping),
-        loop_of_file(Key, Args, Known, Query, Lines)
+        loop_of_file(Key, Args, Plain, Query, Lines)
     ->  Loop = file(Query, Lines)
     ;   Loop = pure
     ).
@@ -162,70 +164,79 @@ candidate(l, _, _, _, [_, _]).
 candidate(l, _, _, _, []).
 candidate(b, I, Clauses, Constant, Arg) :-
     (   Arg = Constant
-    ;   member(clause(_, Head, _), Clauses),
-        arg(I, Head, Arg0),
-        copy_term(Arg0, Arg),
-        nonvar(Arg),
-        term_variables(Arg, Variables),
-        maplist(=(Constant), Variables)
+    ;   Arg = []
+    ;   filled(I, Clauses, 1, Constant, Arg)
+    ;   filled(I, Clauses, 2, Constant, Arg)
     ).
 
-%   A constant that stands as an argument of a fact or rule of the file.
+%   filled(+I, +Clauses, +Depth, +Constant, -Arg): an argument of a head, with
+%   itself in the place of its variables, so often, and then the constant.
+
+filled(I, Clauses, Depth, Constant, Arg) :-
+    member(clause(_, Head, _), Clauses),
+    arg(I, Head, Arg0),
+    nonvar(Arg0),
+    copy_term(Arg0, Arg),
+    term_variables(Arg, Variables),
+    Variables \== [],
+    (   Depth =:= 1
+    ->  Value = Constant
+    ;   copy_term(Arg0, Value),
+        term_variables(Value, Inner),
+        maplist(=(Constant), Inner)
+    ),
+    maplist(=(Value), Variables).
+
+%   Some constants that stand as arguments in heads of the file.
 
 file_constant(Source, Constant) :-
-    (   findall(C,
-                ( assoc_to_values(Source.clauses, Lists),
-                  member(Clauses, Lists),
-                  member(clause(_, Head, _), Clauses),
-                  compound(Head),
-                  arg(_, Head, C),
-                  atomic(C),
-                  C \== [] ),
-                Constants0),
-        sort(Constants0, Constants),
-        length(First, 4),
-        (   append(First, _, Constants)
-        ->  true
-        ;   First = Constants
-        ),
-        First \== []
-    ->  member(Constant, First)
-    ;   Constant = a
+    findall(C,
+            ( assoc_to_values(Source.clauses, Lists),
+              member(Clauses, Lists),
+              member(clause(_, Head, _), Clauses),
+              compound(Head),
+              arg(_, Head, C),
+              atomic(C),
+              C \== [] ),
+            Constants0),
+    sort(Constants0, Constants),
+    (   Constants == []
+    ->  Constant = a
+    ;   nth1(I, Constants, Constant),
+        I =< 4
     ).
 
 
-%   loop_of_file(+Key, +Args, +Known, -Query, -Lines): a derivation of Query by
+%   loop_of_file(+Key, +Args, +Plain, -Query, -Lines): a derivation of Query by
 %   clauses of the file comes back to an atom that is as general, and resolves
-%   no atom that stood after it. No predicate that is called on the way has a
-%   cut, or anything but calls of the file's predicates and unifications, so
+%   no atom that stood after it. The predicates on the way are Plain, so
 %   SWI-Prolog goes this way too.
 
-loop_of_file(Key, Args, Known, Query, Lines) :-
+loop_of_file(Key, Args, Plain, Query, Lines) :-
     Key = _:Name/_,
     Goal =.. [Name|Args],
     copy_term(Goal, Query),
     numbervars(Query, 0, _),
     most_clauses(Most),
-    call_with_inference_limit(once(comes_back([Key-Goal], [], Most, Known, Lines)), 5_000_000, Result),
+    call_with_inference_limit(once(comes_back([Key-Goal], [], Most, Plain, Lines)), 5_000_000, Result),
     Result \== inference_limit_exceeded.
 
-%   comes_back(+Goals, +Before, +Most, +Known, -Lines): Before has
+%   comes_back(+Goals, +Before, +Most, +Plain, -Lines): Before has
 %   before(Key, Atom, Count, Lines) for atoms that were resolved, with Count atoms
 %   after them, and the lines of the clauses since then.
 
-comes_back([unification-(A = B)|Goals], Before, Most, Known, Lines) :-
+comes_back([unification-(A = B)|Goals], Before, Most, Plain, Lines) :-
     !,
     unify_with_occurs_check(A, B),
-    comes_back(Goals, Before, Most, Known, Lines).
-comes_back([Key-Goal|Goals], Before0, Most, Known, Lines) :-
+    comes_back(Goals, Before, Most, Plain, Lines).
+comes_back([Key-Goal|Goals], Before0, Most, Plain, Lines) :-
     length(Goals, Count),
     include(is_still_after(Count), Before0, Before1),
     (   member(before(Key, Atom, _, Lines0), Before1),
         subsumes_term(Goal, Atom)
     ->  Lines = Lines0
     ;   Most > 0,
-        is_plain_predicate(Key, Known),
-        source_clauses(Known.source, Key, Clauses),
+        get_assoc(Key, Plain, Clauses),
         copy_term(Goal, Atom),
         member(clause(Line, Head0, Body0), Clauses),
         copy_term(Head0-Body0, Head-Body),
@@ -235,7 +246,7 @@ comes_back([Key-Goal|Goals], Before0, Most, Known, Lines) :-
         append(BodyGoals, Goals, Goals1),
         maplist(with_line(Line), [before(Key, Atom, Count, [])|Before1], Before),
         Less is Most - 1,
-        comes_back(Goals1, Before, Less, Known, Lines)
+        comes_back(Goals1, Before, Less, Plain, Lines)
     ).
 
 is_still_after(Count, before(_, _, Count0, _)) :-
@@ -243,16 +254,48 @@ is_still_after(Count, before(_, _, Count0, _)) :-
 
 with_line(Line, before(Key, Atom, Count, Lines), before(Key, Atom, Count, [Line|Lines])).
 
-is_plain_predicate(Key, Known) :-
+%   plain_predicates(+Key, +Known, -Plain): an assoc of the clauses of each
+%   predicate that Key reaches and that has nothing in its clauses but calls of
+%   the file's predicates and unifications, and of which no more is assumed. Of
+%   a file with `=>` each clause is read again, since these rules match and
+%   commit.
+
+plain_predicates(Key, Known, Plain) :-
     Source = Known.source,
+    (   Source.doubts == []
+    ->  reachable([Key], Known.graph, [], Keys),
+        convlist(plain_clauses(Known), Keys, Pairs)
+    ;   Pairs = []
+    ),
+    list_to_assoc(Pairs, Plain).
+
+reachable([], _, Keys, Keys).
+reachable([Key|Others], Graph, Keys0, Keys) :-
+    (   memberchk(Key, Keys0)
+    ->  reachable(Others, Graph, Keys0, Keys)
+    ;   get_assoc(Key, Graph, Callees),
+        append(Callees, Others, More),
+        reachable(More, Graph, [Key|Keys0], Keys)
+    ).
+
+plain_clauses(Known, Key, Key-Clauses) :-
+    Source = Known.source,
+    Key = Module:PI,
+    is_defined(Source, Key),
     source_clauses(Source, Key, Clauses),
     memberchk(predicate(Key, _, []), Known.program),
     \+ memberchk(Key, Source.dynamic),
     \+ memberchk(Key, Source.multifile),
     \+ memberchk(Key-_, Source.tabled),
     \+ memberchk(Key-_, Source.meta),
-    Key = Module:_,
-    forall(member(clause(_, _, Body), Clauses), is_plain_body(Body, Module, Source)).
+    forall(member(clause(_, _, Body), Clauses), is_plain_body(Body, Module, Source)),
+    (   has_text(Source.path, "=>")
+    ->  forall(member(clause(Place, _, _), Clauses),
+               ( place_of_line(Place, Known.project.path, File, Line, _),
+                 clause_at(File, Line, Source.operators, PI, Clause),
+                 \+ Clause.term = (_ => _) ))
+    ;   true
+    ).
 
 is_plain_body(Body, Module, Source) :-
     nonvar(Body),
@@ -264,7 +307,9 @@ is_plain_body(Body, Module, Source) :-
     ;   Body == true
     ->  true
     ;   callable(Body),
-        \+ Body = _:_,
+        Body \= _:_,
+        \+ is_protected(Body),
+        \+ ( compound(Body), compound_name_arity(Body, _, 0) ),
         functor(Body, Name, Arity),
         is_defined(Source, Module:Name/Arity)
     ).
@@ -312,8 +357,8 @@ lacking_call(Key, Pattern, Reasoning, Text, Places) :-
 %!  lacking_calls(+Known:dict, -Lacking) is det.
 %
 %   Lacking has Callee-call(Pattern, Path, Line, Column) for the calls in clauses
-%   of predicates without modes that none of the callee's modes meets, even if
-%   all arguments of the clause's head are ground.
+%   of the files, of predicates without modes, that none of the callee's modes
+%   meets, even if all arguments of the clause's head are ground.
 
 lacking_calls(Known, Lacking) :-
     Reasoning = Known.reasoning,
@@ -324,7 +369,8 @@ lacking_calls(Known, Lacking) :-
               get_assoc(Key, Reasoning.clauses, Clauses),
               get_assoc(Key, Reasoning.components, Component),
               member(Clause, Clauses),
-              lacking_in(Key, Clause, Component, Reasoning, Callee, Pattern, Path, Line, Column) ),
+              lacking_in(Key, Clause, Component, Reasoning, Callee, Pattern, Path, Line, Column),
+              memberchk(Path, Known.project.files) ),
             Lacking).
 
 lacking_in(Key, clause(Args, Goals, Place), Component, Reasoning, Callee, Pattern, Path, Line, Column) :-

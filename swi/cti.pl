@@ -76,7 +76,8 @@ cti_certificate(File, Facts, Options) :-
 %!  cti_check(+File, +Certificate, +Options) is semidet.
 %
 %   True where the file Certificate has a valid certificate of the
-%   program in File. Options may have timeout(Seconds), as for cti_infer/3.
+%   program in File. Options may have timeout(Seconds), as for cti_infer/3, and
+%   command(Command), another command of cti than `check` that does this.
 
 cti_check(File, Certificate) :-
     cti_check(File, Certificate, []).
@@ -84,9 +85,10 @@ cti_check(File, Certificate) :-
 cti_check(File, Certificate, Options) :-
     absolute_path(File, Path),
     absolute_path(Certificate, CertificatePath),
+    option(command(Command), Options, check),
     setup_call_cleanup(
         tmp_file_stream(utf8, Answer, Out),
-        ( run_cti_to(Out, [check, file(Path), file(CertificatePath)], Options, Status, Message),
+        ( run_cti_to(Out, [Command, file(Path), file(CertificatePath)], Options, Status, Message),
           read_file_to_terms(Answer, Facts, [encoding(utf8)]) ),
         ( close(Out), delete_file(Answer) )),
     (   Status == 0

@@ -87,7 +87,7 @@ ground_sets(Modes, Sets) :-
 %
 %   Answer is
 %
-%       answer{ file, files, predicates, assumptions, trusts, certificates, unread }
+%       answer{ file, files, predicates, assumptions, trusts, certificates, unanswered, unread }
 %
 %   with the path of File, all paths that were asked for, the predicates of
 %   the file in the order of its lines, what is assumed, what its author trusts
@@ -99,7 +99,7 @@ ground_sets(Modes, Sets) :-
 %   whether `cti check` accepted it. A predicate is
 %
 %       predicate{ name, file, line, column, exported, modes, reason, reason_text,
-%                  reason_places, assumptions, recursion, found_by, not_shown }
+%                  reason_places, assumptions, recursion, found_by, checked, not_shown }
 %
 %   where modes is a list of mode{arguments, by}: every query ends in which
 %   the arguments are `ground`, or known by `length` (docs/real-files.md). No
@@ -108,14 +108,16 @@ ground_sets(Modes, Sets) :-
 %   place(Path, Line, Column, Text). assumptions has the numbers of those
 %   that it relies on. recursion is `recursive`, `calls` if it calls a
 %   recursive predicate, or `plain`. found_by has the analyses that found
-%   the modes. not_shown has place(Path, Line, Column, Text) for patterns that
+%   the modes, and checked is `true` if `cti check` accepted a certificate of
+%   each of them. not_shown has place(Path, Line, Column, Text) for patterns that
 %   a comment of PlDoc or a call in the file wants, and no mode meets, where
 %   there are modes. An assumption is
 %
 %       assumption{number, file, line, predicate, doubt, text}
 %
-%   and unread is a list of place(Path, Line, Column, Text), with the
-%   reader's message for each clause that could not be read.
+%   unanswered has the analyses that gave no answer, or not in time, and unread
+%   is a list of place(Path, Line, Column, Text), with the reader's message for
+%   each clause that could not be read.
 %
 %   Options:
 %
@@ -217,12 +219,12 @@ known(Project, Program, Prefix, Known, Options) :-
     components(Graph, Components),
     recursion(Components, Graph, Kinds),
     analysed(PureFile, Prefix, Names, Kinds, Found, Options),
-    Known0 = known{project:Project, source:Source, program:Program, pure_file:PureFile, names:Names, graph:Graph, components:Components,
-                   kinds:Kinds, found:Found},
+    Known0 = known{project:Project, source:Source, program:Program, pure_file:PureFile, names:Names, graph:Graph,
+                   components:Components, kinds:Kinds, found:Found},
     reasoning(Known0, Reasoning),
     Known1 = Known0.put(reasoning, Reasoning),
-    lacking_calls(Known1, Lacking),
-    Known = Known1.put(lacking, Lacking).
+    wanted_patterns(Known1, Wanted),
+    Known = Known1.put(wanted, Wanted).
 
 answer(Known, Answer) :-
     _{project:Project, found:Found} :< Known,
@@ -243,7 +245,7 @@ answer(Known, Answer) :-
     findall(Place, ( member(Source, Project.sources), member(Place, Source.unread) ), Unread0),
     append(Unread0, Known.untrusted, Unread),
     Answer = answer{file:Project.path, files:Project.files, predicates:Predicates, assumptions:Assumptions,
-                    trusts:Trusts, certificates:Certificates, unread:Unread}.
+                    trusts:Trusts, certificates:Certificates, unanswered:Found.unanswered, unread:Unread}.
 
 with_calls(Known, Answer0, Answer, Options) :-
     (   option(calls(true), Options)
@@ -327,7 +329,9 @@ answer_predicates(Known, Predicates, Assumptions) :-
     notes_below(Known.program, Project, Known.components, Known.graph, Below),
     findall(Note,
             (   member(Key-_, Own), get_assoc(Key, Below, Notes), member(Note, Notes)
-            ;   member(Source, Project.sources), member(doubt(Line, Doubt), Source.doubts), Note = place(file, Line, Doubt)
+            ;   member(Source, Project.sources),
+                member(doubt(Line, Doubt), Source.doubts),
+                Note = place(file, Line, Doubt)
             ),
             Notes0),
     sort(Notes0, Notes),
@@ -361,10 +365,15 @@ own_predicate(Key, Path, Known, Below, Numbers, Predicate) :-
     ->  reason(Key, Known.reasoning, Reason, Text, Places)
     ;   Reason = none, Text = "", Places = []
     ),
-    not_shown(Key, Modes, Known.put(source, Source), NotShown),
+    not_shown(Key, Modes, Known, NotShown),
+    (   member(found(_, _, Analyses), Found),
+        \+ ( member(Result, Known.found.results), memberchk(Result.analysis, Analyses), Result.checked == true )
+    ->  Checked = false
+    ;   Checked = true
+    ),
     Predicate = predicate{name:Name, file:File, line:Line, column:Column, exported:Exported, modes:Modes,
                           reason:Reason, reason_text:Text, reason_places:Places, assumptions:Assumptions,
-                          recursion:Recursion, found_by:FoundBy, not_shown:NotShown}.
+                          recursion:Recursion, found_by:FoundBy, checked:Checked, not_shown:NotShown}.
 
 sorted_by_place(Predicates, Sorted) :-
     findall(key(File, Line, Name)-Predicate,

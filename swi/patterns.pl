@@ -1,5 +1,6 @@
 :- module(patterns,
-          [ not_shown/4                 % +Key, +Modes, +Known, -Places
+          [ wanted_patterns/2,          % +Known, -Wanted
+            not_shown/4                 % +Key, +Modes, +Known, -Places
           ]).
 
 /** <module> Patterns of calls that are wanted, and not shown to end
@@ -16,6 +17,27 @@ gives, or by which the file itself calls it.
 :- use_module(places).
 :- use_module(reasons).
 
+%!  wanted_patterns(+Known:dict, -Wanted) is det.
+%
+%   Wanted is an assoc of each key's list of wanted(Pattern, By), where By is
+%   comment(Path, Line), or call(Path, Line, Column).
+
+wanted_patterns(Known, Wanted) :-
+    lacking_calls(Known, Lacking),
+    findall((Module:PI)-wanted(Pattern, comment(Path, Line)),
+            ( member(Source, Known.project.sources),
+              _{path:Path, module:Module} :< Source,
+              comment_patterns(Path, Comments),
+              member(PI-pattern(Pattern, Line), Comments) ),
+            Pairs0),
+    findall(Key-wanted(Pattern, call(File, Line, Column)),
+            member(Key-call(Pattern, File, Line, Column), Lacking),
+            Pairs1),
+    append(Pairs0, Pairs1, Pairs2),
+    keysort(Pairs2, Pairs),
+    group_pairs_by_key(Pairs, Groups),
+    list_to_assoc(Groups, Wanted).
+
 %!  not_shown(+Key, +Modes, +Known:dict, -Places) is det.
 %
 %   Places are place(Path, Line, Column, Text), one for each pattern that no
@@ -24,13 +46,18 @@ gives, or by which the file itself calls it.
 
 not_shown(_, [], _, []) :- !.
 not_shown(Key, Modes, Known, Places) :-
-    findall(wanted(Pattern, By),
-            ( wanted_pattern(Key, Known, Pattern, By),
-              \+ ( member(Mode, Modes), meets(Pattern, Mode) ) ),
-            Wanted0),
-    sort(Wanted0, Wanted1),
-    first_of_each(Wanted1, Wanted),
-    maplist(not_shown_place(Key, Known), Wanted, Places).
+    (   get_assoc(Key, Known.wanted, All)
+    ->  exclude(is_met(Modes), All, Open0),
+        sort(Open0, Open1),
+        first_of_each(Open1, Open),
+        maplist(not_shown_place(Key, Known), Open, Places)
+    ;   Places = []
+    ).
+
+is_met(Modes, wanted(Pattern, _)) :-
+    member(Mode, Modes),
+    meets(Pattern, Mode),
+    !.
 
 first_of_each([], []).
 first_of_each([wanted(Pattern, By)|Wanted], [wanted(Pattern, By)|Firsts]) :-
@@ -48,11 +75,3 @@ not_shown_place(Key, Known, wanted(Pattern, By), place(Path, Line, Column, Text)
 
 wanted_by(comment(Path, Line), Path, Line, 1, "in the comment at").
 wanted_by(call(Path, Line, Column), Path, Line, Column, "called at").
-
-wanted_pattern(Key, Known, Pattern, comment(Path, Line)) :-
-    Path = Known.source.path,
-    Key = Module:PI,
-    Module == Known.source.module,
-    comment_pattern(Path, Line, PI, Pattern).
-wanted_pattern(Key, Known, Pattern, call(Path, Line, Column)) :-
-    member(Key-call(Pattern, Path, Line, Column), Known.lacking).

@@ -1,9 +1,10 @@
 :- module(places,
           [ forget_places/0,
             place_of_line/5,            % +Place, +Path, -File, -Line, -Column
+            has_text/2,                 % +File, +Text
             clause_at/5,                % +File, +Line, +Operators, +PI, -Clause
             occurrences/3,              % +Clause, +PI, -Occurrences
-            comment_pattern/4,          % +File, ?Line, ?PI, -Pattern
+            comment_patterns/2,         % +File, -Patterns
             variable_name/3             % +Clause, +Variable, -Name
           ]).
 
@@ -17,26 +18,28 @@ terms. Lines and columns count from 1.
 :- use_module(library(lists)).
 :- use_module(library(readutil)).
 
-:- dynamic kept_lines/2.
+:- dynamic kept_file/2, kept_line/3.
 
 %!  forget_places is det.
 %
 %   Files may have changed since they were last looked at.
 
 forget_places :-
-    retractall(kept_lines(_, _)).
+    retractall(kept_file(_, _)),
+    retractall(kept_line(_, _, _)).
 
 %!  place_of_line(+Place, +Path, -File, -Line, -Column) is det.
 %
-%   Place is a line of Path, or File:Line. Column is where the text of that line
-%   begins, and 1 if it is not known.
+%   Place is a line of Path, or File:Line, where the line is 0 if it is not known.
+%   Column is where the text of that line begins, and 1 if it is not known.
 
 place_of_line(Place, Path, File, Line, Column) :-
-    (   Place = File:Line
+    (   Place = File:Line0
     ->  true
     ;   File = Path,
-        Line = Place
+        Line0 = Place
     ),
+    Line is max(1, Line0),
     first_column(File, Line, Column).
 
 first_column(File, Line, Column) :-
@@ -48,23 +51,34 @@ first_column(File, Line, Column) :-
     ).
 
 line_text(File, Line, Text) :-
-    Line >= 1,
-    lines(File, Lines),
-    functor(Lines, _, Count),
-    Line =< Count,
-    arg(Line, Lines, Text).
+    line_count(File, _),
+    kept_line(Line, File, Text).
 
-lines(File, Lines) :-
-    kept_lines(File, Lines),
-    !.
-lines(File, Lines) :-
+%   line_count(+File, -Count): where it cannot be read, it has no lines.
+
+line_count(File, Count) :-
+    kept_file(File, Count0),
+    !,
+    Count = Count0.
+line_count(File, Count) :-
     (   catch(read_file_to_string(File, Text, [encoding(utf8)]), _, fail)
-    ->  split_string(Text, "\n", "", List)
-    ;   List = []
+    ->  split_string(Text, "\n", "", Lines)
+    ;   Lines = []
     ),
-    compound_name_arguments(Lines, lines, List),
-    assertz(kept_lines(File, Lines)).
+    length(Lines, Count),
+    assertz(kept_file(File, Count)),
+    forall(nth1(Line, Lines, Text1), assertz(kept_line(Line, File, Text1))).
 
+
+%!  has_text(+File, +Text) is semidet.
+%
+%   A line of File has Text in it.
+
+has_text(File, Text) :-
+    line_count(File, _),
+    kept_line(_, File, Line),
+    sub_string(Line, _, _, _, Text),
+    !.
 
 %!  clause_at(+File, +Line, +Operators, +PI, -Clause:dict) is semidet.
 %
@@ -72,25 +86,20 @@ lines(File, Lines) :-
 %   predicate PI that begins at Line of File. Operators is the module whose
 %   operators the text has.
 
-most_lines(2000).
-
 clause_at(File, Line, Operators, Name/Arity, Clause) :-
-    lines_from(File, Line, Text),
+    member(Most, [60, 3000]),
+    lines_from(File, Line, Most, Text),
     setup_call_cleanup(open_string(Text, In),
                        clause_in(In, Operators, Name/Arity, Term, Positions, Names),
                        close(In)),
+    !,
     Clause = clause{term:Term, positions:Positions, names:Names, file:File, line:Line, text:Text}.
 
-lines_from(File, Line, Text) :-
-    lines(File, Lines),
-    functor(Lines, _, Count),
-    most_lines(Most),
+lines_from(File, Line, Most, Text) :-
+    line_count(File, Count),
     Last is min(Count, Line + Most),
-    findall(One, ( between(Line, Last, N), arg(N, Lines, One) ), Ones),
-    atomics_to_string_lines(Ones, Text).
-
-atomics_to_string_lines(Lines, Text) :-
-    atomic_list_concat(Lines, '\n', Atom),
+    findall(One, ( between(Line, Last, N), line_text(File, N, One) ), Ones),
+    atomic_list_concat(Ones, '\n', Atom),
     atom_string(Atom, Text).
 
 %   Some clauses may stand in one line.
@@ -257,25 +266,34 @@ variable_name(Clause, Variable, Name) :-
     !.
 
 
-%!  comment_pattern(+File, ?Line, ?PI, -Pattern) is nondet.
+%!  comment_patterns(+File, -Patterns) is det.
 %
-%   A comment of PlDoc at Line gives this pattern of PI: `b` where its argument
-%   is said to be known, by `+`, `++`, `:` or `!`, and else `f`.
+%   Patterns are PI-pattern(Letters, Line): a comment of PlDoc at Line gives this
+%   pattern of PI, `b` where an argument is said to be known, by `+`, `++`, `:`
+%   or `!`, and else `f`.
 
-comment_pattern(File, Line, Name/Arity, Pattern) :-
-    lines(File, Lines),
-    arg(Line, Lines, Text),
-    comment_text(Text, Head),
-    comment_term(Head, Term),
-    comment_head(Term, Plain, More),
-    callable(Plain),
-    Plain =.. [Name|Args],
+comment_patterns(File, Patterns) :-
+    line_count(File, Count),
+    findall(PI-pattern(Pattern, Line),
+            ( between(1, Count, Line),
+              line_text(File, Line, Text),
+              comment_text(Text, Head),
+              comment_pattern(Head, PI, Pattern) ),
+            Patterns).
+
+comment_pattern(Text, Name/Arity, Pattern) :-
+    comment_term(Text, Term),
+    comment_head(Term, Head, More),
+    callable(Head),
+    Head =.. [Name|Args],
     atom(Name),
     maplist(argument_letter, Args, Letters),
     append(Letters, More, Pattern),
     length(Pattern, Arity).
 
 comment_text(Text, Head) :-
+    sub_string(Text, 0, 2, _, Start),
+    memberchk(Start, ["%!", "%%", "/*"]),
     member(Mark, ["%!", "%%", "/**"]),
     string_concat(Mark, Rest, Text),
     \+ sub_string(Rest, 0, 1, _, "%"),

@@ -47,6 +47,7 @@ is_protected(Goal) :-
 %     - find(R): the search of all answers of R, none of which stays;
 %     - options(Options): the goals that a list of options holds;
 %     - prelude(G): a goal of real_goals' own predicates;
+%     - text(L, T): L is a list of codes or characters, and then T;
 %     - result(X): X is atomic, and not [].
 
 rewritten(system, G, R) :- rewritten_system(G, R).
@@ -60,6 +61,8 @@ rewritten(lists, list_to_set(L, S), prelude(sort(L, S))).
 rewritten(lists, memberchk(X, L), prelude(member(X, L))).
 rewritten(lists, nth0(I, L, X), prelude(nth(I, L, X))).
 rewritten(lists, nth1(I, L, X), prelude(nth(I, L, X))).
+rewritten(lists, permutation(L, P), prelude(permute(L, P))).
+rewritten(assoc, get_assoc(K, T, V), prelude(get_assoc(K, T, V))).
 rewritten(ordsets, list_to_ord_set(L, S), prelude(sort(L, S))).
 rewritten(apply, forall(A, B), find(goal((A, B)))).
 
@@ -110,6 +113,8 @@ rewritten_system(length(L, N), R) :-
         R = (L = Vs)
     ;   R = prelude(length(L, N))
     ).
+rewritten_system(T =.. L, R) :- made_term(T, L, R).
+rewritten_system(compound_name_arguments(T, F, Xs), R) :- made_compound(T, F, Xs, R).
 rewritten_system(repeat, prelude(repeat)).
 rewritten_system(A = B, A = B).
 rewritten_system(unify_with_occurs_check(A, B), A = B).
@@ -131,10 +136,40 @@ sink(Sink, R) :-
 
 sink_goal(atom(X), result(X)).
 sink_goal(string(X), result(X)).
-sink_goal(codes(_), true).
-sink_goal(codes(_, _), true).
-sink_goal(chars(_), true).
-sink_goal(chars(_, _), true).
+sink_goal(codes(L), text(L, [])).
+sink_goal(codes(L, T), text(L, T)).
+sink_goal(chars(L), text(L, [])).
+sink_goal(chars(L, T), text(L, T)).
+
+%   made_term(+Term, +List, -Covering): Term =.. List, where the name is known,
+%   or the term is.
+
+made_term(T, L, R) :-
+    nonvar(T),
+    !,
+    compound(T),
+    T =.. [_|Xs],
+    nonvar(L),
+    L = [_|Ys],
+    R = (Xs = Ys).
+made_term(T, L, T = Made) :-
+    is_list(L),
+    L = [F|Xs],
+    atom(F),
+    Xs = [_|_],
+    Made =.. L.
+
+made_compound(T, F, Xs, R) :-
+    (   nonvar(T)
+    ->  compound(T),
+        compound_name_arguments(T, _, Ys),
+        R = (Xs = Ys)
+    ;   is_list(Xs),
+        Xs = [_|_],
+        atom(F),
+        compound_name_arguments(Made, F, Xs),
+        R = (T = Made)
+    ).
 
 sorted_by(P, L, S, ( find((prelude(member(X, L)), prelude(member(Y, L)), goal(call(P, _, X, Y)))), prelude(sort(L, S)) )).
 
@@ -538,14 +573,15 @@ is_hook(Module:PI) :-
 
 %!  is_read_library(?Module) is nondet.
 %
-%   Modules of SWI-Prolog's library whose clauses are read as the file's are.
+%   Modules of SWI-Prolog's library that are read even where something is
+%   assumed of them, since they call the goals of the file.
 
 is_read_library(lists).
 is_read_library(apply).
 is_read_library(pairs).
 is_read_library(assoc).
 is_read_library(ordsets).
-is_read_library(option).
+is_read_library(swi_option).
 is_read_library(occurs).
 is_read_library(ugraphs).
 is_read_library(dcg_basics).

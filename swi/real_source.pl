@@ -231,7 +231,7 @@ no_text(Start, "this text is in UTF-16 or UTF-32: save it as UTF-8") :-
     member(Mark, ["\xFF\\xFE\", "\xFE\\xFF\", "\x0\\x0\\xFE\\xFF\"]),
     sub_string(Start, 0, _, _, Mark),
     !.
-no_text(Start, "this is no text: it begins with bytes of 0") :-
+no_text(Start, "this is no text: it has bytes of 0") :-
     sub_string(Start, Before, _, _, "\x0\"),
     !,
     Before < 1024.              % some texts have one in a comment

@@ -3,7 +3,6 @@
             reason/5,                   % +Key, +Reasoning, -Reason, -Text, -Places
             call_need/7,                % +Key, +Clause, +Goal, +Found, +Reasoning, -Text, -Places
             call_place/7,               % +Key, +Clause, +Goal, +Reasoning, -Path, -Line, -Column
-            named_key/2,                % +Key, -Named
             shown/3                     % +Key, +Module, -Shown
           ]).
 
@@ -33,9 +32,9 @@ certificate.
 :- use_module(library(lists)).
 :- use_module(library(occurs)).
 :- use_module(library(pairs)).
-:- use_module(library(yall)).
 :- use_module(answer_text).
 :- use_module(places).
+:- use_module(pure_program, [named_key/2]).
 :- use_module(real_goals, [pure_term/2]).
 :- use_module(real_modules, [root_source/2, source_of/3]).
 
@@ -52,12 +51,18 @@ reasoning(Known, Reasoning) :-
     transposed(Known.names, ByName),
     given_up(First.facts, ByName, GivenUp),
     findall(Key-What, ( member(said(Name, What), First.notes), get_assoc(Name, ByName, Key) ), Notes),
+    findall(Key-What,
+            ( member(Result, Known.found.results),
+              Result.by == length,
+              member(said(Name, What), Result.notes),
+              get_assoc(Name, ByName, Key) ),
+            LengthNotes),
     ground_rows(First.facts, ByName, Grounds),
     first_numbers(Known.program, 1, Numbers0),
     list_to_assoc(Numbers0, Numbers),
-    Reasoning = reasoning{project:Known.project, source:Known.source, program:Known.program, clauses:ClausesOf, modes:First.modes,
-                          found:Known.found.modes, given_up:GivenUp, notes:Notes, by:First.by,
-                          components:ComponentOf, grounds:Grounds, numbers:Numbers}.
+    Reasoning = reasoning{project:Known.project, source:Known.source, program:Known.program, clauses:ClausesOf,
+                          modes:First.modes, found:Known.found.modes, given_up:GivenUp, notes:Notes, by:First.by,
+                          components:ComponentOf, grounds:Grounds, numbers:Numbers, length_notes:LengthNotes}.
 
 transposed(Names, ByName) :-
     findall(Name-Key, member(Key-Name, Names), Pairs0),
@@ -128,12 +133,18 @@ from_note(falls_not(Calls), _, Known, nothing_falls(Shown), Text, Places) :-
 from_note(callee(Call), Component, Known, Reason, Text, Places) :-
     seen_call(Known, Call, Seen),
     called_cause(Seen, Component, Known, Reason, Text, Places).
-from_note(needs(Call, Names, After, _), _, Known, needs([call(Line, Shown, Sets)]), Text, Places) :-
+from_note(needs(Call, Names, After, _), Component, Known, needs([call(Line, Shown, Sets)]), Text, Places) :-
     seen_call(Known, Call, Seen),
     _{line:Line0, shown:Shown, key:Callee, path:Path, column:Column} :< Seen,
     line_shown(Known, Path, Line0, Line),
-    modes_of(Callee, Known, Sets),
-    known_word(Known.by, Word),
+    (   member(Member, Component),
+        memberchk(Member-needs(Call, _, _, _), Known.length_notes),
+        length_sets(Callee, Known, Sets)
+    ->  By = length
+    ;   By = Known.by,
+        modes_of(Callee, Known, Sets)
+    ),
+    known_word(By, Word),
     needs_text(Sets, Needs),
     append(Sets, Needed),
     include(is_lost_in(Needed), Seen.lost, Lost),
@@ -141,7 +152,8 @@ from_note(needs(Call, Names, After, _), _, Known, needs([call(Line, Shown, Sets)
     call_text(Seen, CallText),
     after_text(After, Known, AfterText),
     lost_hint([Seen.put(lost, Lost)], Hint),
-    format(string(Text), "~w needs ~w ~w, and ~w not sure to be~w~s", [CallText, Needs, Word, NamesText, AfterText, Hint]),
+    format(string(Text), "~w needs ~w ~w, and ~w not sure to be~w~s",
+           [CallText, Needs, Word, NamesText, AfterText, Hint]),
     format(string(PlaceText), "this call needs ~w ~w", [Needs, Word]),
     Places = [place(Path, Line0, Column, PlaceText)].
 from_note(unmet(Calls), _, Known, Reason, Text, Places) :-
@@ -283,20 +295,40 @@ seen_goal(Known, Key, clause(Args, Goals, Place), GoalNumber, Seen) :-
     ;   Own = false
     ),
     Seen0 = seen{key:Callee, shown:Shown, path:Path, main:Known.project.path, own:Own, pure:clause(Args, Goals)},
-    named_key(Callee, CalleeNamed),
-    CalleeNamed = _:CalleePI,
     Named = _:NamedPI,
     (   clause_at(Path, Line0, Source.operators, NamedPI, Clause),
-        same_name_before(Goals, GoalNumber, CalleePI, Before),
-        occurrence_of(Clause, CalleePI, CallArgs, Before, Goal, Line-Column)
+        same_name_before(Goals, GoalNumber, Callee, Before),
+        written_as(Callee, WrittenPI),
+        occurrence_of(Clause, WrittenPI, CallArgs, Before, Goal, Line-Column)
     ->  lost_variables(Clause, Callee, Goal, CallArgs, Args-Goals, Lost),
-        Seen = Seen0.put(_{line:Line, column:Column, goal:Goal, clause:Clause, lost:Lost, arguments:CallArgs})
+        Seen1 = Seen0.put(_{line:Line, column:Column, goal:Goal, clause:Clause, lost:Lost, arguments:CallArgs}),
+        (   Callee = prelude(_)
+        ->  Seen = Seen1.put(shown, WrittenPI)
+        ;   Seen = Seen1
+        )
     ;   Seen = Seen0.put(_{line:Line0, column:Column0, goal:none, clause:none, lost:[], arguments:CallArgs})
     ).
 
+%   written_as(+Key, -PI): what the text has for a call of Key.
+
+written_as(prelude(Name/_), PI) :-
+    !,
+    prelude_of(Name, PIs),
+    member(PI, PIs).
+written_as(Key, PI) :-
+    named_key(Key, _:PI).
+
+prelude_of(member, [memberchk/2, predsort/3]).
+prelude_of(nth, [nth0/3, nth1/3]).
+prelude_of(sort, [sort/2, sort/4, list_to_set/2, list_to_ord_set/2, predsort/3]).
+prelude_of(permute, [msort/2, keysort/2]).
+prelude_of(length, [length/2]).
+prelude_of(repeat, [repeat/0, between/3]).
+
 %   How many goals before this one have the same name.
 
-same_name_before(Goals, GoalNumber, PI, Before) :-
+same_name_before(Goals, GoalNumber, Callee, Before) :-
+    named_key(Callee, _:PI),
     findall(I,
             ( nth1(I, Goals, call(Key, _)),
               I < GoalNumber,
@@ -393,6 +425,15 @@ line_of(Path, Main, Line0, Line) :-
 
 modes_of(Key, Known, Sets) :-
     get_assoc(Key, Known.modes, Sets).
+
+%   length_sets(+Key, +Known, -Sets): the modes of Key are all by length, so that
+%   it needs no more.
+
+length_sets(Key, Known, Sets) :-
+    get_assoc(Key, Known.found, Found),
+    Found = [_|_],
+    forall(member(found(_, By, _), Found), By == length),
+    findall(Set, member(found(Set, _, _), Found), Sets).
 
 known_word(ground, ground).
 known_word(length, 'known by length').
@@ -624,20 +665,6 @@ shown_key(Key, Known, Shown) :-
     named_key(Key, Named),
     shown(Named, Known.source.module, Shown).
 
-%!  named_key(+Key, -Named) is det.
-%
-%   Named is the predicate that Key is a part or a copy of.
-
-named_key(part(Key, _), Named) :-
-    !,
-    named_key(Key, Named).
-named_key(special(Key, _), Named) :-
-    !,
-    named_key(Key, Named).
-named_key(prelude(PI), system:PI) :- !.
-named_key(directives, file) :- !.
-named_key(Key, Key).
-
 %!  shown(+Key, +Module, -Shown) is det.
 %
 %   Shown is Name/Arity for a predicate of Module, and Key for others.
@@ -654,14 +681,8 @@ given_up(Facts, ByName, GivenUp) :-
               given(Fact, Rest, Predicate, Given),
               get_assoc(Predicate, ByName, Key) ),
             Pairs0),
-    keysort(Pairs0, Pairs1),
-    first_by_key(Pairs1, Pairs),
+    sort(1, @<, Pairs0, Pairs),
     list_to_assoc(Pairs, GivenUp).
-
-first_by_key([], []).
-first_by_key([K-V|Pairs], [K-V|Firsts]) :-
-    exclude({K}/[K1-_]>>(K1 == K), Pairs, Others),
-    first_by_key(Others, Firsts).
 
 nth_fact([Fact|Facts], Facts, Fact).
 nth_fact([_|Facts], Rest, Fact) :-

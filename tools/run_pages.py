@@ -5,7 +5,7 @@ Usage: tools/run_pages.py [PROGRAM]     (PROGRAM is bin/cti where none is named)
 
 A command is a line of a block that begins with `$ `, up to the next one; the lines after it are its output, with standard error or without.
 A line `..` there stands for any lines, and standard error may stand before the output or behind it. `$ cat FILE` of a file that is not there shows the file, and makes it. The commands of a page run one after
-the other in one folder, beside the examples. Those of `cti-file` are left to swi/test_cti_file.pl, since their files stand in the page's text. Where SWI-Prolog is installed,
+the other in one folder, beside the examples. Those of `cti-file` are left to swi/test_answers.pl, since their files stand in the page's text. Where SWI-Prolog is installed,
 the queries of a block, lines that begin with `?- `, are asked at the top of the repository, and `true.` may be left out of their answers. What differs is printed, and then the status is 1.
 """
 import os
