@@ -170,6 +170,11 @@ marks(Predicate) :-
              term_escaped(Pattern, Text),
              mode_tip(Mode, Tip),
              format("<span class=\"mark ~w\" title=\"~s\">~s</span> ", [Status, Tip, Text]) )),
+    (   Modes \== [],
+        Predicate.checked == false
+    ->  format("<span class=\"exported\">not checked</span> ")
+    ;   true
+    ),
     numbers(Numbers).
 
 numbers([]) :- !.

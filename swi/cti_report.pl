@@ -125,6 +125,10 @@ report_fact(Report, _, certificate(Shown, Kind, Count, Check)) :-
     member(Certificate, Answer.certificates),
     _{kind:Kind, facts:Count, checked:Checked} :< Certificate,
     checked_word(Checked, Check).
+report_fact(Report, _, unanswered(Shown, Analysis)) :-
+    member(Answer, Report.answers),
+    path_shown(Answer.file, Shown),
+    member(Analysis, Answer.unanswered).
 report_fact(Report, _, unread(Shown, Line, Column, Text)) :-
     member(Answer, Report.answers),
     member(place(File, Line, Column, Text0), Answer.unread),
@@ -143,6 +147,9 @@ predicate_fact(Predicate, Offset, Fact) :-
         Fact = predicate(File, PI, Line, Column, Word)
     ;   member(mode{arguments:Arguments, by:By}, Modes),
         Fact = mode(File, PI, Arguments, By)
+    ;   Modes \== [],
+        Predicate.checked == false,
+        Fact = not_checked(File, PI)
     ;   Modes == [],
         Fact = no_mode(File, PI, Reason)
     ;   member(place(Path, L, C, Text), Places),
@@ -170,7 +177,8 @@ checked_word(false, not_checked).
 
 json_document(Report,
               _{tool:"cti-file", version:Version, files:Files, predicates:Predicates, assumptions:Assumptions,
-                trusts:Trusts, certificates:Certificates, unread:Unread, failures:Failures, complaints:Complaints}) :-
+                trusts:Trusts, certificates:Certificates, unanswered:Unanswered, unread:Unread, failures:Failures,
+                complaints:Complaints}) :-
     report_version(Version0),
     text_string(Version0, Version),
     findall(File, ( member(Answer, Report.answers), member(Path, Answer.files), shown_string(Path, File) ), Files),
@@ -178,6 +186,9 @@ json_document(Report,
     findall(Json, json_assumption(Report, Json), Assumptions),
     findall(Json, json_trust(Report, Json), Trusts),
     findall(Json, json_certificate(Report, Json), Certificates),
+    findall(Text,
+            ( member(Answer, Report.answers), member(Analysis, Answer.unanswered), text_string(Analysis, Text) ),
+            Unanswered),
     findall(Json, ( member(Answer, Report.answers), member(Place, Answer.unread), json_place(Place, Json) ), Unread),
     findall(Json, json_failure(Report, Json), Failures),
     findall(Json, ( member(Message, Report.complaints), json_message(Message, Json) ), Complaints).
@@ -191,11 +202,11 @@ term_text(Term, Text) :-
 
 json_predicate(Report,
                _{name:Name, file:File, line:Line, column:Column, exported:Exported, recursion:Recursion,
-                 modes:Modes, found_by:FoundBy, reason:Reason, not_shown:NotShown, assumptions:Numbers}) :-
+                 checked:Checked, modes:Modes, found_by:FoundBy, reason:Reason, not_shown:NotShown, assumptions:Numbers}) :-
     answer_offset(Report, Answer, Offset),
     member(Predicate, Answer.predicates),
     _{name:PI, file:Path, line:Line, column:Column, exported:Exported, recursion:Recursion0, modes:Modes0,
-      found_by:FoundBy0, reason_text:Text, reason_places:Places, not_shown:NotShown0} :< Predicate,
+      checked:Checked, found_by:FoundBy0, reason_text:Text, reason_places:Places, not_shown:NotShown0} :< Predicate,
     term_text(PI, Name),
     shown_string(Path, File),
     text_string(Recursion0, Recursion),

@@ -80,13 +80,22 @@ lost_of(Path, PI, Kept, Answers, lost(Path, Line, Column, PI, Modes, Why)) :-
     ->  _{line:Line, column:Column, modes:Now, reason_text:Reason} :< Predicate,
         exclude(is_met(Now), Before, Modes),
         (   Now == []
-        ->  format(string(Why), "no mode: ~s", [Reason])
+        ->  format(string(Why0), "no mode: ~s", [Reason])
         ;   modes_text(Now, NowText),
-            format(string(Why), "now ~s", [NowText])
-        )
+            format(string(Why0), "now ~s", [NowText])
+        ),
+        unanswered_text(Answers, Text),
+        string_concat(Why0, Text, Why)
     ;   Line = 1, Column = 1, Modes = Before, Why = "it is not there any more"
     ),
     Modes \== [].
+
+unanswered_text(Answers, Text) :-
+    (   member(Answer, Answers),
+        Answer.unanswered = [_|_]
+    ->  Text = "; cti had not the time to look for all modes (--timeout SECONDS)"
+    ;   Text = ""
+    ).
 
 asked_for(Path, Answers) :-
     member(Answer, Answers),
