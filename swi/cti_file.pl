@@ -24,7 +24,7 @@ module is not proved; what cti says of the pure program is.
 :- use_module(cti).
 :- use_module(components).
 :- use_module(pure_program).
-:- use_module(real_builtins, [is_protected/1, is_read_library/1]).
+:- use_module(real_builtins, [is_harmless_name/1, is_protected/1, is_read_library/1]).
 :- use_module(real_source).
 
 %!  cti_file_modes(+File, -Modes, -Assumptions) is det.
@@ -239,15 +239,24 @@ notes_below(Program, Source, Components, Graph, Below) :-
     empty_assoc(Empty),
     foldl(component_notes(Direct, Graph), Components, Empty, Below0),
     everybodys_notes(Source, Pairs, Below0, Everywhere),
-    map_assoc(ord_union(Everywhere), Below0, Below).
+    map_assoc(relied_on(Everywhere), Below0, Below).
+
+%   What a goal adds matters to others alone, and only where a directive calls it.
+
+relied_on(Everywhere, Below, Notes) :-
+    exclude(adds_clause, Below, Own),
+    ord_union(Everywhere, Own, Notes).
+
+adds_clause(place(_, _, Doubt)) :-
+    memberchk(Doubt, [asserts, directive(asserts)]).
 
 %   Doubts of the whole file are everybody's, and so are those of what its
 %   directives call, and those of what a goal leaves behind.
 
 everybodys_notes(Source, Direct, Below, Everywhere) :-
     findall(place(file, Line, Doubt), member(doubt(Line, Doubt), Source.doubts), Notes0),
-    (   get_assoc(directives, Below, Notes1)
-    ->  true
+    (   get_assoc(directives, Below, Left0)
+    ->  include(may_last, Left0, Notes1)
     ;   Notes1 = []
     ),
     findall(place(Key, Line, lasting(What)),
@@ -255,6 +264,13 @@ everybodys_notes(Source, Direct, Below, Everywhere) :-
             Notes2),
     append([Notes0, Notes1, Notes2], Notes),
     sort(Notes, Everywhere).
+
+%   A doubt of whether something ends, once it has ended, leaves nothing behind.
+
+may_last(place(_, _, Doubt)) :-
+    \+ memberchk(Doubt, [ multifile, conditional, tabled, bound, cyclic, imported, halts, transparent, risk(grows, _),
+                          directive(bound), directive(cyclic), directive(halts), directive(risk(grows, _)) ]),
+    \+ ( Doubt = external(_:PI), is_harmless_name(PI) ).
 
 component_notes(Direct, Graph, Component, Below0, Below) :-
     findall(Notes,
@@ -554,6 +570,8 @@ assumption_text(lasting(What), Text) :-
     format(string(Text), "~q may have goals run, or other clauses called, later: these end", [What]).
 assumption_text(hook(PI), Text) :-
     format(string(Text), "~q is called by the system: it ends whenever it is called", [PI]).
+assumption_text(shadows(PI), Text) :-
+    format(string(Text), "no clause that the file adds, and that is not known, is of ~q", [PI]).
 assumption_text(libraries, "it says where libraries are found: those that the file uses are SWI-Prolog's").
 assumption_text(halts, "where the system halts, it runs the goals of at_halt/1: these end").
 assumption_text(quasi, "it may read a quasi quotation: the goal that reads its text ends").
@@ -575,7 +593,7 @@ assumption_text(transparent, "it runs in the module of its caller: what it calls
 assumption_text(imported, "it is also imported by its name: the clauses read here are those that are called").
 assumption_text(adds, "clauses that the file adds to it, and that are not known, are facts").
 assumption_text(unread, "this clause could not be read: nothing depends on it").
-assumption_text(flags, "a flag for the reading of what is in quotes may change here: it is read as if it did not").
+assumption_text(flags, "the reading of the text may change here: it is read as if it did not").
 assumption_text(chr, "rules of CHR are not read: they end").
 assumption_text(dialect(Dialect), Text) :-
     format(string(Text), "the file is for ~w: it is as for SWI-Prolog", [Dialect]).
@@ -583,4 +601,4 @@ assumption_text(include(Spec), Text) :-
     format(string(Text), "the included file ~q was not found: it adds no clauses", [Spec]).
 assumption_text(inherits, "what is imported here has no name that the file calls").
 assumption_text(loads(_), "what is loaded is not known: it adds no clauses").
-assumption_text(asserts, "a clause that it adds is not known").
+assumption_text(asserts, "a clause that it adds is not known: it is of a dynamic predicate, and a fact").

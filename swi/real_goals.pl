@@ -117,6 +117,7 @@ general_clause(_:_/Arity, pure(Args, true, 0)) :-
 
 doubts_of(Source, Predicate, Real) -->
     { first_line(Real, Line) },
+    doubt_if(clashes_with_library(Source, Predicate), Line, imported),
     doubt_if(memberchk(Predicate, Source.multifile), Line, multifile),
     doubt_if(memberchk(Predicate, Source.conditional), Line, conditional),
     doubt_if(( memberchk(Predicate-moded, Source.tabled)
@@ -124,6 +125,13 @@ doubts_of(Source, Predicate, Real) -->
     doubt_if(imported_by_name(Source, Predicate), Line, imported),
     doubt_if(( memberchk(Predicate, Source.transparent), has_context(Real) ), Line, transparent),
     doubt_if(( memberchk(Predicate, Source.dynamic), Source.adds \== [] ), Line, adds).
+
+%   The file has clauses for a predicate of a library, which has its own.
+
+clashes_with_library(Source, Module:PI) :-
+    Module \== Source.module,
+    \+ memberchk(Module:PI, Source.multifile),
+    is_read_library(Module).
 
 doubt_if(Condition, Line, Doubt) -->
     (   { call(Condition) }
@@ -562,6 +570,10 @@ goal_of(builtin, G, Context, P) -->
     builtin(system, G, Context, P).
 goal_of(library(Module), G, Context, P) -->
     { functor(G, Name, Arity) },
+    (   { Context.source.adds \== [] }     % a clause may be of that name
+    ->  note(Context, shadows(Name/Arity))
+    ;   []
+    ),
     goal_of(library(Module, Name/Arity), G, Context, P).
 goal_of(library(Module, Name/Arity), G0, Context, P) -->
     { G0 =.. [_|Args],
@@ -575,10 +587,17 @@ goal_of(library(Module, Name/Arity), G0, Context, P) -->
           is_defined(Source, Module:Name/Arity) }
     ->  call_of(Module:Name/Arity, Source, G, Context, P)
     ;   { P = true },
-        note(Context, external(Module:Name/Arity))
+        note(Context, external(Module:Name/Arity)),
+        later_note(Module, Name/Arity, Context)
     ).
 goal_of(unknown(PI), _, Context, true) -->
     note(Context, external(PI)).
+
+later_note(Where, Name/Arity, Context) -->
+    (   { runs_later(Where, Name/Arity) }
+    ->  note(Context, lasting(Name))
+    ;   []
+    ).
 
 known(Where, G) :-
     (   never_succeeds(Where, G)
@@ -618,6 +637,10 @@ builtin(Where, G, Context, P) -->
     halt_note(G, Context),
     term_note(Where, G, Context),
     module_note(Where, G, Context),
+    (   { Where == system, adds_unknown_clause(G, Context.module) }
+    ->  note(Context, asserts)
+    ;   []
+    ),
     hook_calls(G, Context, P0),
     listed_options(G, Context, P1),
     { foldl(result, Xs, true, P2),
@@ -655,6 +678,8 @@ text_note(G, Context) -->
     ->  (   { plain_text(Text),
               \+ ( prints_message(G), memberchk('~@', Context.main.mentions) ) }
         ->  []
+        ;   { format_options(G, Text, Options) }
+        ->  find_options(Options, Context)
         ;   note(Context, text)
         ),
         (   { Context.main.letters == yes }
@@ -663,6 +688,25 @@ text_note(G, Context) -->
         )
     ;   []
     ).
+
+%   format_options(+Goal, +Text, -Options): the options of each ~W, where the
+%   text has no ~@. If they hold goals, these are not searched.
+
+format_options(G, Text, Options) :-
+    functor(G, Name, Arity),
+    memberchk(Name/Arity, [format/2, format/3, debug/3, ansi_format/3]),
+    arg(Arity, G, Arguments),
+    text_codes(Text, Codes),
+    options_in_text(Codes, Arguments, Options).
+
+find_options([], _) --> [].
+find_options([Options|More], Context) -->
+    options(Options, Context, P),
+    (   { P == true }
+    ->  []
+    ;   note(Context, text)
+    ),
+    find_options(More, Context).
 
 format_text(format(Text), Text).
 format_text(format(Text, _), Text).
