@@ -10,7 +10,7 @@ ZSH_COMPLETION = $(SHARE)/zsh/site-functions/_cti
 FISH_COMPLETION = $(SHARE)/fish/vendor_completions.d/cti.fish
 FILE_MANUAL = $(SHARE)/man/man1/cti-file.1
 CONVERTER = $(SHARE)/cti/swi
-CONVERTER_FILES = analyses.pl answer_text.pl asking.pl components.pl cti.pl cti_file.pl file_doubts.pl note_reading.pl patterns.pl \
+CONVERTER_FILES = analyses.pl answer_text.pl asking.pl components.pl cti.pl cti_file.pl doubtful_libraries.pl file_doubts.pl note_reading.pl patterns.pl \
   places.pl pure_program.pl real_builtins.pl real_goals.pl real_modules.pl real_source.pl reasons.pl
 
 bin/cti: $(shell find crates -name '*.rt' -o -name '*.antt' | grep -v /out/) crates.txt

@@ -2,7 +2,8 @@
           [ covering_program/2,         % +Source, -Program
             write_program/3,            % +Program, +File, -Names
             pure_query/4,               % +Names, +Key, +Args, -Text
-            program_graph/2             % +Program, -Graph
+            program_graph/2,            % +Program, -Graph
+            named_key/2                 % +Key, -Named
           ]).
 
 /** <module> The pure program that covers a real file
@@ -22,15 +23,18 @@ keys part(Key, Number).
 :- use_module(library(apply)).
 :- use_module(library(assoc)).
 :- use_module(library(lists)).
+:- use_module(library(occurs)).
 :- use_module(library(pairs)).
 :- use_module(library(yall)).
+:- use_module(doubtful_libraries).
 :- use_module(real_goals).
-:- use_module(real_modules, [root_source/2, start_project/0]).
+:- use_module(real_modules, [is_defined_in/2, root_source/2, start_project/0]).
 
 most_arguments(12).
 most_variables(48).
 most_shared(36).
 most_distributed(128).
+most_other_clauses(4000).
 
 %!  covering_program(+Project:dict, -Program) is det.
 
@@ -44,31 +48,84 @@ covering_program(Project, Program) :-
     ->  Keys = [directives|Keys2]
     ;   Keys = Keys2
     ),
-    empty_assoc(Seen),
-    cover(Keys, Project, Seen, Program0, []),
-    with_cyclic(Program0, Program).
+    covered_keys(Keys, Project, Program0),
+    with_cyclic(Program0, Program1),
+    without_doubtful(Project, Program1, Program).
 
 source_keys(Source, Keys) :-
     assoc_to_keys(Source.clauses, Keys0),
     append([Keys0, Source.dynamic, Source.multifile], Keys).
 
-cover([], _, _, Program, Program).
-cover([Key|Keys], Project, Seen0, Program0, Program) :-
-    (   get_assoc(Key, Seen0, _)
-    ->  cover(Keys, Project, Seen0, Program0, Program)
-    ;   put_assoc(Key, Seen0, seen, Seen),
-        predicate_clauses(Project, Key, Pure0, Found),
-        findall(Need, member(need(Need), Found), Needs0),
-        sort(Needs0, Needs),
-        findall(note(Line, Doubt), member(note(Line, Doubt), Found), Notes0),
-        sort(Notes0, Notes),
-        distinct_clauses(Pure0, Pure),
-        phrase(bounded(Pure, Key, 1, Clauses), Parts),
-        Program0 = [predicate(Key, Clauses, Notes)|Program1],
-        append(Parts, Program2, Program1),
-        append(Keys, Needs, More),
-        cover(More, Project, Seen, Program2, Program)
+%   Where get_assoc/3 is called, it is done again with terms as that needs them.
+
+covered_keys(Keys, Project, Program) :-
+    empty_assoc(Seen),
+    start_goals(names),
+    cover(Keys, Project, Seen, 0, Program0, []),
+    (   memberchk(predicate(prelude(get_assoc/3), _, _), Program0)
+    ->  start_goals(arities),
+        cover(Keys, Project, Seen, 0, Program, [])
+    ;   Program = Program0
     ).
+
+%   cover(+Keys, +Project, +Seen, +Count, -Program, ?Rest): Count clauses of
+%   files that were not asked for are there. Beyond most_other_clauses no more
+%   are read.
+
+cover([], _, _, _, Program, Program).
+cover([Key|Keys], Project, Seen0, Count0, Program0, Program) :-
+    (   get_assoc(Key, Seen0, _)
+    ->  cover(Keys, Project, Seen0, Count0, Program0, Program)
+    ;   put_assoc(Key, Seen0, seen, Seen),
+        (   is_own_key(Key, Project)
+        ->  covered(Key, Project, Predicates, Needs),
+            Count = Count0
+        ;   most_other_clauses(Most),
+            Count0 < Most
+        ->  covered(Key, Project, Predicates, Needs),
+            foldl(counted, Predicates, Count0, Count)
+        ;   left_out(Key, Predicates),
+            Needs = [],
+            Count = Count0
+        ),
+        append(Predicates, Program1, Program0),
+        append(Keys, Needs, More),
+        cover(More, Project, Seen, Count, Program1, Program)
+    ).
+
+counted(predicate(_, Clauses, _), Count0, Count) :-
+    length(Clauses, Length),
+    Count is Count0 + Length.
+
+is_own_key(Key, Project) :-
+    named_key(Key, Named),
+    (   Named == file
+    ->  true
+    ;   Named = system:_
+    ->  true
+    ;   is_defined_in(Project, Named)
+    ).
+
+covered(Key, Project, [predicate(Key, Clauses, Notes)|Parts], Needs) :-
+    predicate_clauses(Project, Key, Pure0, Found),
+    findall(Need, member(need(Need), Found), Needs0),
+    sort(Needs0, Needs),
+    findall(note(Line, Doubt), member(note(Line, Doubt), Found), Notes0),
+    sort(Notes0, Notes),
+    distinct_clauses(Pure0, Pure),
+    phrase(bounded(Pure, Key, 1, Clauses), Parts).
+
+left_out(Key, [predicate(Key, [clause(Args, [], 0)], [note(0, left_out)])]) :-
+    (   Key = special(_, Closures)
+    ->  include(==(-), Closures, Others),
+        findall(N, ( sub_term(Sub, Closures), nonvar(Sub), Sub = '$VAR'(N) ), Ns0),
+        sort(Ns0, Ns),
+        append(Others, Ns, Arguments)
+    ;   Key = _:_/Arity,
+        length(Arguments, Arity)
+    ),
+    same_length(Arguments, Args0),
+    packed(Args0, Args).
 
 %   with_cyclic(+Program0, -Program): with a note for each clause whose goals
 %   are past by a cyclic term alone. cti never gets past them.
@@ -529,3 +586,17 @@ program_graph(Program, Graph) :-
               sort(Calls0, Calls) ),
             Pairs),
     list_to_assoc(Pairs, Graph).
+
+%!  named_key(+Key, -Named) is det.
+%
+%   Named is the predicate that Key is a part or a copy of.
+
+named_key(part(Key, _), Named) :-
+    !,
+    named_key(Key, Named).
+named_key(special(Key, _), Named) :-
+    !,
+    named_key(Key, Named).
+named_key(prelude(PI), system:PI) :- !.
+named_key(directives, file) :- !.
+named_key(Key, Key).

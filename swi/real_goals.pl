@@ -1,6 +1,7 @@
 :- module(real_goals,
           [ predicate_clauses/4,        % +Project, +Key, -Clauses, -Found
-            pure_term/2                 % +Term, -Pure
+            pure_term/2,                % +Term, -Pure
+            start_goals/1               % +Names
           ]).
 
 /** <module> Real clauses as pure clauses that cover them
@@ -32,6 +33,23 @@ docs/real-files.md says for each doubt what is assumed.
 :- use_module(real_modules).
 :- use_module(real_source).
 
+:- dynamic constant_copy/2, arity_is_name/0.
+
+%!  start_goals(+Names) is det.
+%
+%   Forgets what was made for another program. Names is `arities` where
+%   get_assoc/3 is called, and else `names`. Since that looks at the name of no
+%   term, all compound terms of four arguments then have one name, and so have
+%   all of five, and all of more.
+
+start_goals(Names) :-
+    retractall(constant_copy(_, _)),
+    retractall(arity_is_name),
+    (   Names == arities
+    ->  assertz(arity_is_name)
+    ;   true
+    ).
+
 %!  predicate_clauses(+Project:dict, +Key, -Clauses, -Found) is det.
 
 predicate_clauses(Project, directives, Clauses, Found) :-
@@ -47,7 +65,10 @@ predicate_clauses(Project, special(Predicate, Closures), Clauses, Found) :-
     !,
     defining_sources(Project, Predicate, [Source]),
     source_clauses(Source, Predicate, Real),
-    phrase(( doubts_of_file(Project, Source), special_clauses(Real, Closures, Project, Source, Predicate, Clauses) ), Found).
+    phrase(( doubts_of_file(Project, Source),
+             notes_of_adding(Project, Source, Real),
+             special_clauses(Real, Closures, Project, Source, Predicate, Clauses) ),
+           Found).
 predicate_clauses(Project, Predicate, Clauses, Found) :-
     defining_sources(Project, Predicate, Sources),
     phrase(clauses_in_sources(Sources, Project, Predicate, Clauses0), Found),
@@ -107,7 +128,7 @@ said_of_directive(note(Line, Doubt), note(Line, directive(Doubt))) :- !.
 said_of_directive(Found, Found).
 
 context(Project, Source, Module, Line,
-        context{project:Project, source:Source, module:Module, line:Line, numbers:[], directive:no}).
+        context{project:Project, source:Source, module:Module, line:Line, numbers:[], inputs:[], directive:no}).
 
 %   What tabling calls to join the answers of a predicate.
 
@@ -147,6 +168,7 @@ general_clause(_:_/Arity, pure(Args, true, 0)) :-
 
 doubts_of(Source, Project, Predicate, Real) -->
     { first_line(Real, Line) },
+    doubt_if(clashes_with_library(Source, Predicate), Line, imported),
     doubt_if(( memberchk(Predicate, Source.multifile), \+ is_hook(Predicate) ), Line, multifile),
     doubt_if(memberchk(Predicate, Source.conditional), Line, conditional),
     doubt_if(( memberchk(Predicate-moded, Source.tabled)
@@ -154,6 +176,9 @@ doubts_of(Source, Project, Predicate, Real) -->
     doubt_if(imported_by_name(Source, Predicate), Line, imported),
     doubt_if(( memberchk(Predicate, Source.transparent), has_context(Real) ), Line, transparent),
     doubt_if(( memberchk(Predicate, Source.dynamic), adds_unknown(Project, Source) ), Line, adds),
+    notes_of_adding(Project, Source, Real).
+
+notes_of_adding(Project, Source, Real) -->
     (   { is_root(Project, Source) }
     ->  []
     ;   adding_notes(Real, Source.adds)
@@ -177,8 +202,15 @@ is_root(Project, Source) :-
 
 adding_notes([], _) --> [].
 adding_notes([clause(Line, _, _)|Real], Adds) -->
-    doubt_if(memberchk(doubt(Line, asserts), Adds), Line, asserts),
+    doubt_if(memberchk(doubt(Line, asserts), Adds), Line, adding),
     adding_notes(Real, Adds).
+
+%   The file has clauses for a predicate of a library, which has its own.
+
+clashes_with_library(Source, Module:PI) :-
+    Module \== Source.module,
+    \+ memberchk(Module:PI, Source.multifile),
+    is_library_module(Module).
 
 doubt_if(Condition, Line, Doubt) -->
     (   { call(Condition) }
@@ -211,13 +243,55 @@ imported_by_name(Source, Module:PI) :-
     selected(Selection, [], PI, _),
     !.
 
-pure_clauses([], _, _, _, []) --> [].
-pure_clauses([clause(Line, Head, Body)|Real], Project, Source, Module:PI, [pure(Args, Pure, Line)|Clauses]) -->
+pure_clauses(Real, Project, Source, Predicate, Clauses) -->
+    { read_places(Real, Places) },
+    pure_clauses(Real, Places, Project, Source, Predicate, Clauses).
+
+pure_clauses([], _, _, _, _, []) --> [].
+pure_clauses([clause(Line, Head, Body)|Real], Places, Project, Source, Module:PI, [pure(Args, Pure, Line)|Clauses]) -->
     { Head =.. [_|Args0],
       maplist(pure_term, Args0, Args),
-      context(Project, Source, Module, Line, Context) },
+      context(Project, Source, Module, Line, Context0),
+      maplist(argument_of(Args0), Places, Inputs),
+      Context = Context0.put(inputs, Inputs) },
     body(Body, Context, Pure),
-    pure_clauses(Real, Project, Source, Module:PI, Clauses).
+    pure_clauses(Real, Places, Project, Source, Module:PI, Clauses).
+
+argument_of(Args, I, Arg) :-
+    nth1(I, Args, Arg).
+
+%   read_places(+Real, -Places): the arguments that one clause makes as a text,
+%   and that another one uses in its body otherwise.
+
+read_places(Real, Places) :-
+    findall(I,
+            ( member(clause(_, Head, Body), Real), compound(Head), arg(I, Head, Arg), var(Arg), made_as_text(Body, Arg) ),
+            Made0),
+    sort(Made0, Made),
+    include(is_read(Real), Made, Places).
+
+made_as_text(Body, Arg) :-
+    sub_term(Sink, Body),
+    compound(Sink),
+    text_sink(Sink, Text),
+    Text == Arg,
+    !.
+
+text_sink(codes(Text), Text).
+text_sink(codes(Text, _), Text).
+text_sink(chars(Text), Text).
+text_sink(chars(Text, _), Text).
+
+is_read(Real, I) :-
+    member(clause(_, Head, Body), Real),
+    arg(I, Head, Arg),
+    (   nonvar(Arg)
+    ->  true
+    ;   \+ made_as_text(Body, Arg),
+        sub_term(Sub, Body),
+        Sub == Arg
+    ),
+    !.
 
 %   A fact has no body to rewrite.
 
@@ -230,21 +304,25 @@ body(Body, Context, Pure) -->
 
 %   Predicates with known closures: the clauses with the closures in the
 %   heads' variables, whose arguments are the others' and the closures'
-%   variables. A closure that waits for arguments is '$closure'(Module, Term),
+%   variables. Where an argument is constant(C), the clauses are those that
+%   take C there. A closure that waits for arguments is '$closure'(Module, Term),
 %   which real_source lets stand in no file.
 
 special_clauses([], _, _, _, _, []) --> [].
-special_clauses([Real|Rest], Closures, Project, Source, Predicate, [pure(Args, Pure, Line)|Clauses]) -->
-    { copy_term_nat(Real, clause(Line, Head, Body)),
-      Head =.. [_|Args0],
-      fresh_closures(Closures, Fresh, Variables),
-      bind_closures(Fresh, Args0, Args1),
-      append(Args1, Variables, Args2),
-      maplist(pure_term, Args2, Args),
-      Predicate = Module:_,
-      context(Project, Source, Module, Line, Context) },
-    body(Body, Context, Pure),
-    special_clauses(Rest, Closures, Project, Source, Predicate, Clauses).
+special_clauses([Real|Rest], Closures, Project, Source, Predicate, Clauses) -->
+    (   { copy_term_nat(Real, clause(Line, Head, Body)),
+          Head =.. [_|Args0],
+          fresh_closures(Closures, Fresh, Variables),
+          bind_closures(Fresh, Args0, Args1) }
+    ->  { append(Args1, Variables, Args2),
+          maplist(pure_term, Args2, Args),
+          Predicate = Module:_,
+          context(Project, Source, Module, Line, Context),
+          Clauses = [pure(Args, Pure, Line)|More] },
+        body(Body, Context, Pure)
+    ;   { Clauses = More }
+    ),
+    special_clauses(Rest, Closures, Project, Source, Predicate, More).
 
 %   Closures are kept with '$VAR'(I) for their variables, in order.
 
@@ -256,7 +334,10 @@ bind_closures([], [], []).
 bind_closures([-|Cs], [A|As], [A|Bs]) :-
     !,
     bind_closures(Cs, As, Bs).
-bind_closures([C|Cs], [C|As], Bs) :-
+bind_closures([constant(C)|Cs], [C|As], Bs) :-
+    !,
+    bind_closures(Cs, As, Bs).
+bind_closures(['$closure'(M, C)|Cs], ['$closure'(M, C)|As], Bs) :-
     bind_closures(Cs, As, Bs).
 
 
@@ -373,7 +454,7 @@ numbers_after(G, Context0, Context) :-
     ;   nonvar(G), G = must_be(Type, V), var(V), nonvar(Type),
         memberchk(Type, [integer, nonneg, positive_integer]),
         resolved(G, Context0, Where),
-        Where = exported(_, error:_)
+        ( Where = exported(_, error:_) ; Where = autoloaded(_, error:_) )
     ->  Context = Context0.put(numbers, [V|Context0.numbers])
     ;   Context = Context0
     ).
@@ -410,7 +491,9 @@ declaring_source(Predicate, Context, Source) :-
     ).
 
 %   resolved(+Goal, +Context, -Where): own(Predicate), builtin,
-%   exported(Path, Predicate) for one of another file, or unknown(PI).
+%   exported(Path, Predicate) for one of another file, autoloaded(Path,
+%   Predicate) for one of the library that is loaded when it is called, or
+%   unknown(PI).
 
 resolved(G, Context, Where) :-
     functor(G, Name, Arity),
@@ -433,7 +516,7 @@ resolved(G, Context, Where) :-
     ;   predicate_property(system:G, built_in)
     ->  Where = builtin
     ;   index(PI, Module, Path)
-    ->  Where = exported(Path, Module:PI)
+    ->  Where = autoloaded(Path, Module:PI)
     ;   own_name(PI, Context, Own),
         Where = unknown(Own)
     ).
@@ -516,9 +599,16 @@ goal_of(own(Predicate), G, Context, P) -->
     ).
 goal_of(builtin, G, Context, P) -->
     builtin(system, G, Context, P).
+goal_of(autoloaded(Path, Module:PI), G, Context, P) -->
+    (   { inherits_user(Context), adds_unknown(Context.project, Context.source) }   % a clause may be of that name
+    ->  note(Context, shadows(PI))
+    ;   []
+    ),
+    goal_of(exported(Path, Module:PI), G, Context, P).
 goal_of(exported(Path, Module:Name/Arity), G0, Context, P) -->
     { G0 =.. [_|Args],
       G =.. [Name|Args] },
+    later_note(Module, Name/Arity, Context),
     (   { root_source(Context.project, Own),
           is_defined(Own, Module:Name/Arity),
           Own.path \== Path }
@@ -536,6 +626,12 @@ goal_of(exported(Path, Module:Name/Arity), G0, Context, P) -->
     ).
 goal_of(unknown(PI), _, Context, true) -->
     note(Context, external(PI)).
+
+later_note(Where, Name/Arity, Context) -->
+    (   { runs_later(Where, Name/Arity) }
+    ->  note(Context, lasting(Name))
+    ;   []
+    ).
 
 known(Where, G) :-
     (   never_succeeds(Where, G)
@@ -555,6 +651,11 @@ builtin(system, G, Context, P) -->
       Xs = [_|_] },
     !,
     applied(C, Xs, Context, P).
+builtin(system, length(_, N), Context, true) -->
+    { var(N),
+      member(V, Context.numbers),
+      V == N },
+    !.                                  % it ends, whatever the list is
 builtin(system, between(L, H, X), Context, P) -->
     !,
     between_goal(L, H, X, Context, P).
@@ -575,6 +676,10 @@ builtin(Where, G, Context, P) -->
     halt_note(G, Context),
     term_note(Where, G, Context),
     module_note(Where, G, Context),
+    (   { Where == system, adds_unknown_clause(G, Context.module) }
+    ->  note(Context, asserts)
+    ;   []
+    ),
     hook_calls(G, Context, P0),
     listed_options(G, Context, P1),
     { foldl(result, Xs, true, P2),
@@ -612,6 +717,8 @@ text_note(G, Context) -->
     ->  (   { plain_text(Text),
               \+ ( prints_message(G), mentions(Context, '~@') ) }
         ->  []
+        ;   { format_options(G, Text, Options) }
+        ->  find_options(Options, Context)
         ;   note(Context, text)
         ),
         (   { has_letters(Context) }
@@ -642,6 +749,25 @@ concerned_source(Context, Source) :-
     (   Source = Context.source
     ;   root_source(Context.project, Source)
     ).
+
+%   format_options(+Goal, +Text, -Options): the options of each ~W, where the
+%   text has no ~@. If they hold goals, these are not searched.
+
+format_options(G, Text, Options) :-
+    functor(G, Name, Arity),
+    memberchk(Name/Arity, [format/2, format/3, debug/3, ansi_format/3]),
+    arg(Arity, G, Arguments),
+    text_codes(Text, Codes),
+    options_in_text(Codes, Arguments, Options).
+
+find_options([], _) --> [].
+find_options([Options|More], Context) -->
+    options(Options, Context, P),
+    (   { P == true }
+    ->  []
+    ;   note(Context, text)
+    ),
+    find_options(More, Context).
 
 format_text(format(Text), Text).
 format_text(format(Text, _), Text).
@@ -860,6 +986,11 @@ covering(find(R), Context, P) -->
       ->  P = true
       ;   either(P1, true, P)
       ) }.
+covering(text(L, T), Context, P) -->
+    (   { member(Input, Context.inputs), Input == L }
+    ->  covering(prelude(text(L, T)), Context, P)
+    ;   { P = true }
+    ).
 covering(prelude(G), _, call(prelude(Name/Arity), Pure)) -->
     { functor(G, Name, Arity),
       G =.. [_|Args],
@@ -959,17 +1090,19 @@ pure_unifiers([A = B|Unifiers], P) :-
 call_of(Predicate, Source, G, Context, P) -->
     { G =.. [_|Args],
       meta_specs(Predicate, Source, Args, Specs),
-      maplist(known_closure(Context), Specs, Args, Closures),
-      memberchk('$closure'(_, _), Closures),
-      may_specialise(Predicate, Source, Context.project, Closures) },
-    !,
-    { copy_term_nat(Closures, Numbered),
-      term_variables(Closures, Variables),
+      maplist(known_closure(Context), Specs, Args, Closures0),
+      known_constants(Predicate, Source, Specs, Args, Closures0, Closures),
+      \+ maplist(==(-), Closures),
+      may_specialise(Predicate, Source, Context.project, Closures),
+      copy_term_nat(Closures, Numbered),
       numbervars(Numbered, 0, _),
+      Key = special(Predicate, Numbered),
+      may_copy(Key) },
+    !,
+    { term_variables(Closures, Variables),
       other_arguments(Closures, Specs, Args, Others),
       append(Others, Variables, Args1),
       maplist(pure_term, Args1, Pure),
-      Key = special(Predicate, Numbered),
       P = call(Key, Pure) },
     [need(Key)].
 call_of(Predicate, Source, G, _, call(Predicate, Pure)) -->
@@ -1058,6 +1191,60 @@ small_closure(C) :-
     Count =< 1,
     \+ ( sub_term(Sub, C), nonvar(Sub), Sub = '$VAR'(_) ).
 
+%   known_constants(+Predicate, +Source, +Specs, +Args, +Closures0, -Closures):
+%   with constant(Arg) for small ground arguments that select clauses, where
+%   the pure program knows no difference.
+
+known_constants(Predicate, Source, Specs, Args, Closures0, Closures) :-
+    source_clauses(Source, Predicate, Real),
+    constants_of(Specs, Args, Closures0, 1, Real, Closures).
+
+constants_of([], [], [], _, _, []).
+constants_of([Spec|Specs], [Arg|Args], [Closure0|Closures0], I, Real, [Closure|Closures]) :-
+    (   Closure0 == (-),
+        nonvar(Arg),
+        \+ is_meta(Spec),
+        is_small_constant(Arg),
+        selects(Arg, I, Real)
+    ->  Closure = constant(Arg)
+    ;   Closure = Closure0
+    ),
+    Next is I + 1,
+    constants_of(Specs, Args, Closures0, Next, Real, Closures).
+
+is_small_constant(Arg) :-
+    ground(Arg),
+    \+ number(Arg),
+    term_size(Arg, Size),
+    Size =< 4,
+    \+ ( sub_term(Sub, Arg), compound(Sub), compound_name_arity(Sub, Name, _), memberchk(Name, ['$VAR', '$closure']) ).
+
+selects(Arg, I, Real) :-
+    pure_term(Arg, Pure),
+    member(clause(_, Head, _), Real),
+    arg(I, Head, Other0),
+    copy_term_nat(Other0, Other),
+    Other \= Arg,
+    pure_term(Other, PureOther),
+    PureOther = Pure,
+    !.
+
+%   may_copy(+Key): there is a limit for copies by constants, since there may be
+%   one for each way to combine them.
+
+most_copies(300).
+
+may_copy(special(Predicate, Closures)) :-
+    (   \+ memberchk(constant(_), Closures)
+    ->  true
+    ;   constant_copy(Predicate, Closures)
+    ->  true
+    ;   predicate_property(constant_copy(_, _), number_of_clauses(Count)),
+        most_copies(Most),
+        Count < Most,
+        assertz(constant_copy(Predicate, Closures))
+    ).
+
 may_specialise(Predicate, Source, Project, Closures) :-
     defining_sources(Project, Predicate, [_]),
     source_clauses(Source, Predicate, Real),
@@ -1096,8 +1283,22 @@ pure_term(Term, Depth, Pure) :-
     ->  Pure = c
     ;   Depth1 is Depth - 1,
         maplist({Depth1}/[A, B]>>pure_term(A, Depth1, B), Args, Pures),
-        pure_name(Name, PureName),
-        compound_name_arguments(Pure, PureName, Pures)
+        pure_compound(Name, Pures, Pure)
+    ).
+
+pure_compound(Name, Args, Pure) :-
+    (   arity_is_name,
+        Args = [A, B, C, D|More]
+    ->  (   More == []
+        ->  Pure = node(A, B, C, D)
+        ;   More = [E]
+        ->  Pure = node(A, B, C, D, E)
+        ;   More = [E|Others0],
+            Others =.. [others|Others0],
+            Pure = node(A, B, C, D, E, Others)
+        )
+    ;   pure_name(Name, PureName),
+        compound_name_arguments(Pure, PureName, Args)
     ).
 
 pure_name(Name, Pure) :-
@@ -1117,6 +1318,16 @@ prelude(length([], c), true).
 prelude(length([_|T], c), call(prelude(length/2), [T, c])).
 prelude(member(X, [X|_]), true).
 prelude(member(X, [_|T]), call(prelude(member/2), [X, T])).
+prelude(get_assoc(K, node(K, V, _, _), V), true).
+prelude(get_assoc(K, node(_, _, _, T), V), call(prelude(get_assoc/3), [K, T, V])).
+prelude(get_assoc(K, node(K, V, _, _, _), V), true).
+prelude(get_assoc(K, node(_, _, _, T, _), V), call(prelude(get_assoc/3), [K, T, V])).
+prelude(get_assoc(K, node(_, _, _, _, T), V), call(prelude(get_assoc/3), [K, T, V])).
+prelude(get_assoc(K, node(K, V, _, _, _, _), V), true).
+prelude(get_assoc(K, node(_, _, _, T, _, _), V), call(prelude(get_assoc/3), [K, T, V])).
+prelude(get_assoc(K, node(_, _, _, _, T, _), V), call(prelude(get_assoc/3), [K, T, V])).
+prelude(text(T, T), true).
+prelude(text([c|L], T), call(prelude(text/2), [L, T])).
 prelude(nth(c, [X|_], X), true).
 prelude(nth(c, [_|T], X), call(prelude(nth/3), [c, T, X])).
 prelude(repeat, true).

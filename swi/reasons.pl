@@ -4,7 +4,6 @@
             call_need/7,                % +Key, +Clause, +Goal, +Found, +Reasoning, -Text, -Places
             call_place/7,               % +Key, +Clause, +Goal, +Reasoning, -Path, -Line, -Column
             is_own/2,                   % +Key, +Reasoning
-            named_key/2,                % +Key, -Named
             shown/3                     % +Key, +Module, -Shown
           ]).
 
@@ -36,6 +35,7 @@ certificate.
 :- use_module(library(pairs)).
 :- use_module(answer_text).
 :- use_module(places).
+:- use_module(pure_program, [named_key/2]).
 :- use_module(real_goals, [pure_term/2]).
 :- use_module(real_modules, [root_source/2, source_of/3]).
 
@@ -670,20 +670,6 @@ outside_call(Component, Known, at(Number, GoalNumber), Callee, Sets) :-
 shown_key(Key, Known, Shown) :-
     named_key(Key, Named),
     shown(Named, Known.source.module, Shown).
-
-%!  named_key(+Key, -Named) is det.
-%
-%   Named is the predicate that Key is a part or a copy of.
-
-named_key(part(Key, _), Named) :-
-    !,
-    named_key(Key, Named).
-named_key(special(Key, _), Named) :-
-    !,
-    named_key(Key, Named).
-named_key(prelude(PI), system:PI) :- !.
-named_key(directives, file) :- !.
-named_key(Key, Key).
 
 %!  shown(+Key, +Module, -Shown) is det.
 %

@@ -293,7 +293,7 @@ test(operators_within_a_directive) :-
     is_open(":- catch(op(700, xfx, ===>), _, true).\nX ===> Y :- X ===> Y.\np(X) :- X ===> X.\n", p/1).
 test(operators_of_a_library) :-
     said(":- use_module(library(clpfd)).\np(X) :- X #> 3.\n", p/1, _, Doubts),
-    memberchk(risk(waits, put_attr/3), Doubts).
+    memberchk(external(clpfd:(#>)/2), Doubts).
 test(tests_of_a_unit) :-
     is_open(":- begin_tests(u).\ntest(a) :- p(a).\n:- end_tests(u).\np(X) :- p(X).\n", plunit_u:test/1).
 test(closure_in_data) :-
@@ -475,7 +475,7 @@ test(waiting_goal) :-
 test(attributes) :-
     is_assumed("attr_unify_hook(_, _) :- p(_).\np(X) :- put_attr(X, user, a), X = b.\n", p/1, risk(waits, put_attr/3)).
 test(when) :-
-    is_assumed("p(X) :- when(nonvar(X), p(_)), X = a.\n", p/1, risk(waits, put_attr/3)).
+    is_assumed("p(X) :- when(nonvar(X), p(_)), X = a.\n", p/1, external(when:when/2)).
 test(upper_bound) :-
     is_assumed("p(H) :- between(1, H, _), fail.\n", p/1, bound).
 test(computed_bound, Doubts == []) :-
