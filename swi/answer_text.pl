@@ -207,6 +207,8 @@ assumption_text(lasting(What), Text) :-
     format(string(Text), "~q may have goals run, or other clauses called, later: these end", [What]).
 assumption_text(hook(PI), Text) :-
     format(string(Text), "~q is called by the system: it ends whenever it is called", [PI]).
+assumption_text(shadows(PI), Text) :-
+    format(string(Text), "no clause that the file adds, and that is not known, is of ~q", [PI]).
 assumption_text(libraries, "it says where libraries are found: those that the file uses are SWI-Prolog's").
 assumption_text(halts, "where the system halts, it runs the goals of at_halt/1: these end").
 assumption_text(quasi, "it may read a quasi quotation: the goal that reads its text ends").
@@ -228,7 +230,7 @@ assumption_text(transparent, "it runs in the module of its caller: what it calls
 assumption_text(imported, "it is also imported by its name: the clauses read here are those that are called").
 assumption_text(adds, "clauses that the file adds to it, and that are not known, are facts").
 assumption_text(unread, "this clause could not be read: nothing depends on it").
-assumption_text(flags, "a flag for the reading of what is in quotes may change here: it is read as if it did not").
+assumption_text(flags, "the reading of the text may change here: it is read as if it did not").
 assumption_text(chr, "rules of CHR are not read: they end").
 assumption_text(dialect(Dialect), Text) :-
     format(string(Text), "the file is for ~w: it is as for SWI-Prolog", [Dialect]).
@@ -236,5 +238,6 @@ assumption_text(include(Spec), Text) :-
     format(string(Text), "the included file ~q was not found: it adds no clauses", [Spec]).
 assumption_text(inherits, "what is imported here has no name that the file calls").
 assumption_text(loads(_), "what is loaded is not known: it adds no clauses").
-assumption_text(asserts, "a clause that it adds is not known: it is a fact").
+assumption_text(asserts, "a clause that it adds is not known: it is of a dynamic predicate, and a fact").
+assumption_text(adding, "a clause that it adds is not known: it is a fact").
 assumption_text(left_out, "the program that covers the file is too large to have it: it ends").

@@ -29,7 +29,7 @@ module is not proved; what cti says of the pure program is.
 :- use_module(patterns).
 :- use_module(places).
 :- use_module(pure_program).
-:- use_module(real_builtins, [is_protected/1]).
+:- use_module(real_builtins, [is_harmless_name/1, is_protected/1]).
 :- use_module(real_source).
 :- use_module(reasons).
 :- use_module(trust).
@@ -431,14 +431,23 @@ notes_below(Program, Project, Components, Graph, Below) :-
     empty_assoc(Empty),
     foldl(component_notes(Direct, Graph), Components, Empty, Below0),
     everybodys_notes(Project, Pairs, Below0, Everywhere),
-    map_assoc(ord_union(Everywhere), Below0, Below).
+    map_assoc(relied_on(Everywhere), Below0, Below).
+
+%   What a goal adds matters to others alone, and only where a directive calls it.
+
+relied_on(Everywhere, Below, Notes) :-
+    exclude(adds_clause, Below, Own),
+    ord_union(Everywhere, Own, Notes).
+
+adds_clause(place(_, _, Doubt)) :-
+    memberchk(Doubt, [asserts, directive(asserts)]).
 
 %   Doubts of what the directives of the files call are everybody's, and so are
 %   those of what a goal of the files leaves behind.
 
 everybodys_notes(Project, Direct, Below, Everywhere) :-
-    (   get_assoc(directives, Below, Notes1)
-    ->  true
+    (   get_assoc(directives, Below, Left)
+    ->  include(may_last, Left, Notes1)
     ;   Notes1 = []
     ),
     findall(place(Key, Line, lasting(What)),
@@ -446,6 +455,13 @@ everybodys_notes(Project, Direct, Below, Everywhere) :-
             Notes2),
     append(Notes1, Notes2, Notes),
     sort(Notes, Everywhere).
+
+%   A doubt of whether something ends, once it has ended, leaves nothing behind.
+
+may_last(place(_, _, Doubt)) :-
+    \+ memberchk(Doubt, [ multifile, conditional, tabled, bound, cyclic, imported, halts, transparent, risk(grows, _),
+                          directive(bound), directive(cyclic), directive(halts), directive(risk(grows, _)) ]),
+    \+ ( Doubt = external(_:PI), is_harmless_name(PI) ).
 
 is_of_roots(file, _) :- !.
 is_of_roots(Key, Project) :-

@@ -127,6 +127,14 @@ file_doubt(Items, _, Line, lasting(monotonic)) :-
     memberchk(Directive, [table(_), dynamic(_), dynamic(_, _)]),
     sub_term(Sub, Directive),
     Sub == monotonic.
+file_doubt(Items, _, Line, lasting(load_files)) :-
+    member(raw(Line, Term), Items),
+    sub_term(Goal, Term),
+    nonvar(Goal),
+    Goal = load_files(_, Options),
+    sub_term(Option, Options),
+    nonvar(Option),
+    Option = stream(_).
 file_doubt(_, Clauses, Line, libraries) :-
     member((_:Name/_)-clause(Line, Head, _), Clauses),
     searches_libraries(Name, Head).

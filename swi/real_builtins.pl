@@ -10,10 +10,13 @@
             option_goal/2,              % ?Option, -Goal
             reads_terms/2,              % +Where, +Name/Arity
             keeps_terms/1,              % +Name/Arity
+            runs_later/2,               % +Where, +Name/Arity
             is_harmless_directive/1,    % +Goal
+            is_harmless_name/1,         % +Name/Arity
             flag_kind/2,                % +Flag, -Kind
             runs_goal/1,                % +Codes
             is_hook/1,                  % +Predicate
+            options_in_text/3,          % +Codes, +Arguments, -Options
             hooks/2,                    % +Name/Arity, -Hooks
             is_read_library/1           % ?Module
           ]).
@@ -416,6 +419,38 @@ letter_after([Code|Codes0], Letter, Codes) :-
     ;   Letter = Code, Codes = Codes0
     ).
 
+%!  options_in_text(+Codes, +Arguments, -Options) is semidet.
+%
+%   Options has the lists of options that each ~W of a text takes from the
+%   Arguments. Fails where the text has a letter that takes a goal, or one that
+%   is not known, or where too few arguments are known.
+
+options_in_text([], _, []).
+options_in_text([0'~|Codes0], Arguments0, Options) :-
+    !,
+    stars_after(Codes0, Arguments0, Arguments1),
+    letter_after(Codes0, Letter, Codes),
+    (   Letter == 0'W
+    ->  nonvar(Arguments1),
+        Arguments1 = [_|Arguments2],
+        nonvar(Arguments2),
+        Arguments2 = [Option|Arguments],
+        Options = [Option|More]
+    ;   memberchk(Letter, `acdDefgGhHiIpqrRswWkv`)
+    ->  nonvar(Arguments1),
+        Arguments1 = [_|Arguments],
+        Options = More
+    ;   memberchk(Letter, `n~t|+`),
+        Arguments = Arguments1,
+        Options = More
+    ),
+    options_in_text(Codes, Arguments, More).
+options_in_text([_|Codes], Arguments, Options) :-
+    options_in_text(Codes, Arguments, Options).
+
+stars_after([0'*|_], [_|Arguments], Arguments) :- !.
+stars_after(_, Arguments, Arguments).
+
 %!  reads_terms(+Where, +PI) is semidet.
 %
 %   PI reads terms from a text, with the syntaxes of quasi quotations.
@@ -435,6 +470,14 @@ keeps_terms(PI) :-
     memberchk(PI, [ nb_getval/2, b_getval/2, nb_current/2, recorded/2, recorded/3, instance/2, trie_lookup/3, trie_gen/2,
                     trie_gen/3, trie_gen_compiled/2, trie_gen_compiled/3, thread_peek_message/1, thread_peek_message/2 ]).
 
+%!  runs_later(+Where, +PI) is semidet.
+%
+%   PI has a goal run later, whatever is then called. file_doubts has those that
+%   are known by their names alone.
+
+runs_later(time, alarm/3).
+runs_later(time, alarm/4).
+
 %!  is_harmless_directive(+Goal) is semidet.
 %
 %   What a directive that calls Goal leaves behind, beyond what real_source
@@ -448,8 +491,15 @@ is_harmless_directive(initialization(_, When)) :-
 is_harmless_directive(set_prolog_flag(_, _)) :- !.
 is_harmless_directive(Goal) :-
     functor(Goal, Name, Arity),
+    is_harmless_name(Name/Arity).
+
+%!  is_harmless_name(+PI) is semidet.
+%
+%   No call of PI leaves anything behind that concerns the file's predicates.
+
+is_harmless_name(PI) :-
     harmless_directives(PIs),
-    memberchk(Name/Arity, PIs),
+    memberchk(PI, PIs),
     !.
 
 harmless_directives(
@@ -459,10 +509,10 @@ harmless_directives(
 harmless_directives(
     [ module/2, module/3, use_module/1, use_module/2, autoload/1, autoload/2, reexport/1, reexport/2, ensure_loaded/1,
       consult/1, load_files/1, load_files/2, '[|]'/2, include/1, require/1, export/1, import/1, use_foreign_library/1,
-      use_foreign_library/2, load_foreign_library/1, load_foreign_library/2, encoding/1, expects_dialect/1, op/3,
+      use_foreign_library/2, load_foreign_library/1, load_foreign_library/2, compile_predicates/1, encoding/1, expects_dialect/1, op/3,
       add_import_module/3, set_base_module/1, '$set_source_module'/1, '$set_source_module'/2, create_prolog_flag/3,
       style_check/1, license/1, license/2, set_module/1, begin_tests/1, begin_tests/2, end_tests/1, set_test_options/1,
-      if/1, elif/1, else/0, endif/0, debug/1, nodebug/1, trust/1 ]).
+      if/1, elif/1, else/0, endif/0, debug/1, nodebug/1, format_predicate/2, trust/1 ]).
 harmless_directives(
     [ predicate_options/3, setting/4, record/1, html_meta/1, html_resource/2, http_handler/3, rdf_meta/1, rdf_register_ns/2,
       rdf_register_ns/3, rdf_register_prefix/2, rdf_register_prefix/3, rdf_prefix/2, listen/2, listen/3, lazy_list_iterator/4,
@@ -498,7 +548,8 @@ flags(printing, [print_write_options, write_attributes]).
 flags(none,
       [ access_level, agc_margin, agc_close_streams, answer_format, answer_write_options, argv, autoload, bounded, c_cc, c_cflags,
         c_ldflags, c_libplso, c_libs, color_term, debug, debug_on_error, debug_on_interrupt, debug_term_position,
-        debugger_show_context, debugger_write_options, determinism_error, editor, emacs_inferior_process, encoding,
+        debugger_show_context, debugger_write_options, determinism_error, editor, emacs_inferior_process, emulated_dialect,
+        encoding,
         error_ambiguous_stream_pair, file_name_variables, file_search_cache_time, fileerrors, float_overflow, float_rounding,
         float_undefined, float_underflow, float_zero_div, gc, gc_thread, generate_debug_info, hide, history,
         integer_rounding_function, last_call_optimisation, max_rational_size, max_rational_size_action, message_context,

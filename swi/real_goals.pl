@@ -169,6 +169,7 @@ general_clause(_:_/Arity, pure(Args, true, 0)) :-
 
 doubts_of(Source, Project, Predicate, Real) -->
     { first_line(Real, Line) },
+    doubt_if(clashes_with_library(Source, Predicate), Line, imported),
     doubt_if(( memberchk(Predicate, Source.multifile), \+ is_hook(Predicate) ), Line, multifile),
     doubt_if(memberchk(Predicate, Source.conditional), Line, conditional),
     doubt_if(( memberchk(Predicate-moded, Source.tabled)
@@ -202,8 +203,15 @@ is_root(Project, Source) :-
 
 adding_notes([], _) --> [].
 adding_notes([clause(Line, _, _)|Real], Adds) -->
-    doubt_if(memberchk(doubt(Line, asserts), Adds), Line, asserts),
+    doubt_if(memberchk(doubt(Line, asserts), Adds), Line, adding),
     adding_notes(Real, Adds).
+
+%   The file has clauses for a predicate of a library, which has its own.
+
+clashes_with_library(Source, Module:PI) :-
+    Module \== Source.module,
+    \+ memberchk(Module:PI, Source.multifile),
+    is_library_module(Module).
 
 doubt_if(Condition, Line, Doubt) -->
     (   { call(Condition) }
@@ -458,7 +466,7 @@ numbers_after(G, Context0, Context) :-
     ;   nonvar(G), G = must_be(Type, V), var(V), nonvar(Type),
         memberchk(Type, [integer, nonneg, positive_integer]),
         resolved(G, Context0, Where),
-        Where = exported(_, error:_)
+        ( Where = exported(_, error:_) ; Where = autoloaded(_, error:_) )
     ->  Context = Context0.put(numbers, [V|Context0.numbers])
     ;   Context = Context0
     ).
@@ -495,7 +503,9 @@ declaring_source(Predicate, Context, Source) :-
     ).
 
 %   resolved(+Goal, +Context, -Where): own(Predicate), builtin,
-%   exported(Path, Predicate) for one of another file, or unknown(PI).
+%   exported(Path, Predicate) for one of another file, autoloaded(Path,
+%   Predicate) for one of the library that is loaded when it is called, or
+%   unknown(PI).
 
 resolved(G, Context, Where) :-
     functor(G, Name, Arity),
@@ -518,7 +528,7 @@ resolved(G, Context, Where) :-
     ;   predicate_property(system:G, built_in)
     ->  Where = builtin
     ;   index(PI, Module, Path)
-    ->  Where = exported(Path, Module:PI)
+    ->  Where = autoloaded(Path, Module:PI)
     ;   own_name(PI, Context, Own),
         Where = unknown(Own)
     ).
@@ -601,9 +611,16 @@ goal_of(own(Predicate), G, Context, P) -->
     ).
 goal_of(builtin, G, Context, P) -->
     builtin(system, G, Context, P).
+goal_of(autoloaded(Path, Module:PI), G, Context, P) -->
+    (   { inherits_user(Context), adds_unknown(Context.project, Context.source) }   % a clause may be of that name
+    ->  note(Context, shadows(PI))
+    ;   []
+    ),
+    goal_of(exported(Path, Module:PI), G, Context, P).
 goal_of(exported(Path, Module:Name/Arity), G0, Context, P) -->
     { G0 =.. [_|Args],
       G =.. [Name|Args] },
+    later_note(Module, Name/Arity, Context),
     (   { root_source(Context.project, Own),
           is_defined(Own, Module:Name/Arity),
           Own.path \== Path }
@@ -621,6 +638,12 @@ goal_of(exported(Path, Module:Name/Arity), G0, Context, P) -->
     ).
 goal_of(unknown(PI), _, Context, true) -->
     note(Context, external(PI)).
+
+later_note(Where, Name/Arity, Context) -->
+    (   { runs_later(Where, Name/Arity) }
+    ->  note(Context, lasting(Name))
+    ;   []
+    ).
 
 known(Where, G) :-
     (   never_succeeds(Where, G)
@@ -665,6 +688,10 @@ builtin(Where, G, Context, P) -->
     halt_note(G, Context),
     term_note(Where, G, Context),
     module_note(Where, G, Context),
+    (   { Where == system, adds_unknown_clause(G, Context.module) }
+    ->  note(Context, asserts)
+    ;   []
+    ),
     hook_calls(G, Context, P0),
     listed_options(G, Context, P1),
     { foldl(result, Xs, true, P2),
@@ -702,6 +729,8 @@ text_note(G, Context) -->
     ->  (   { plain_text(Text),
               \+ ( prints_message(G), mentions(Context, '~@') ) }
         ->  []
+        ;   { format_options(G, Text, Options) }
+        ->  find_options(Options, Context)
         ;   note(Context, text)
         ),
         (   { has_letters(Context) }
@@ -732,6 +761,25 @@ concerned_source(Context, Source) :-
     (   Source = Context.source
     ;   root_source(Context.project, Source)
     ).
+
+%   format_options(+Goal, +Text, -Options): the options of each ~W, where the
+%   text has no ~@. If they hold goals, these are not searched.
+
+format_options(G, Text, Options) :-
+    functor(G, Name, Arity),
+    memberchk(Name/Arity, [format/2, format/3, debug/3, ansi_format/3]),
+    arg(Arity, G, Arguments),
+    text_codes(Text, Codes),
+    options_in_text(Codes, Arguments, Options).
+
+find_options([], _) --> [].
+find_options([Options|More], Context) -->
+    options(Options, Context, P),
+    (   { P == true }
+    ->  []
+    ;   note(Context, text)
+    ),
+    find_options(More, Context).
 
 format_text(format(Text), Text).
 format_text(format(Text, _), Text).

@@ -8,7 +8,8 @@
             exported_source/5,          % +Project, +Path, +Predicate, -Real, -Source
             import_of/3,                % +Source, +PI, -Import
             selected/4,                 % ?Selection, +Exports, +PI, -Real
-            index/3                     % +PI, -Module, -Path
+            index/3,                    % +PI, -Module, -Path
+            is_library_module/1         % +Module
           ]).
 
 /** <module> Which file has the clauses of a predicate
@@ -231,6 +232,13 @@ exports(Exports, Name/Arity) :-
 index(PI, Module, Path) :-
     ensure_index,
     kept_index(PI, Module, Path),
+    !.
+
+%!  is_library_module(+Module) is semidet.
+
+is_library_module(Module) :-
+    ensure_index,
+    kept_index(_, Module, _),
     !.
 
 ensure_index :-

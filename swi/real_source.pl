@@ -6,6 +6,7 @@
             module_header/4,            % +Spec, +Path, -ModulePath, -Header
             is_library_file/1,          % +Path
             source_clauses/3,           % +Source, +Predicate, -Clauses
+            adds_unknown_clause/2,      % +Goal, +Module
             is_defined/2                % +Source, +Predicate
           ]).
 
@@ -611,6 +612,8 @@ changes_reading(Goal) :-
     compound_name_arity(Goal, Name, Arity),
     (   memberchk(Name/Arity, [op/3, set_prolog_flag/2, create_prolog_flag/3, add_import_module/3, set_base_module/1])
     ->  true
+    ;   Goal = prolog_load_context(Key, _)
+    ->  \+ Key \= stream
     ;   Goal = import(Import)
     ->  ground(Import),
         Import = _:_/_
@@ -623,7 +626,11 @@ changes_reading(Goal) :-
     ).
 
 may_run(Term, Line, Goal, State0-Items, State-Rest) :-
-    (   ( Goal = set_prolog_flag(Flag0, _) ; Goal = create_prolog_flag(Flag0, _, _) )
+    (   Goal = prolog_load_context(_, _)        % it may read more of the text
+    ->  flag_item(reading, _, Line, Item),
+        flag_items(Term, reading, Item, Line, Items, Rest),
+        State = State0
+    ;   ( Goal = set_prolog_flag(Flag0, _) ; Goal = create_prolog_flag(Flag0, _, _) )
     ->  flag_parts(Flag0, State0, M, Flag),
         flag_kind(Flag, Kind),
         (   flag_item(Kind, Flag, Line, Item),
@@ -1312,6 +1319,22 @@ asserted_in(Items, _, Found) :-
 asserted_in(Items, _, Found) :-
     member(directive(Line, M, Goal), Items),
     asserted_by(Goal, M, Line, Found).
+asserted_in(Items, _, unknown_assert(Line)) :-
+    member(raw(Line, Term), Items),
+    sub_term(Text, Term),
+    (   atom(Text)
+    ;   string(Text)
+    ),
+    has_adding_goal(Text).
+
+%   A text from which a goal that adds clauses may be read.
+
+has_adding_goal(Text) :-
+    string_length(Text, Length),
+    Length > 8,
+    member(Start, ["assert(", "asserta(", "assertz("]),
+    sub_string(Text, _, _, _, Start),
+    !.
 
 asserted_by(Body, Module, Line, Found) :-
     goal_within(Body, Module, Goal, Context),
@@ -1355,6 +1378,16 @@ goal_within(Term, Module0, Goal, Module) :-
             goal_within(Argument, Module0, Goal, Module)
         )
     ).
+
+%!  adds_unknown_clause(+Goal, +Module) is semidet.
+%
+%   Goal, of Module, adds a clause of which the head is not known.
+
+adds_unknown_clause(Goal, Module) :-
+    compound(Goal),
+    compound_name_arguments(Goal, Name, [Clause|More]),
+    adds_name(Name),
+    \+ ( more_fits(More), atom(Module), catch(clause_parts(Clause, Module, _, _, _), _, fail) ).
 
 adds_name(assert).
 adds_name(asserta).

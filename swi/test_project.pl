@@ -170,7 +170,7 @@ test(clause_that_a_file_that_is_called_adds) :-
            'b.pl'-":- module(b, [add/1]).\nadd(C) :- assertz(C).\n"],
           ['a.pl'], _, Doubts),
     doubts_of(p/1, Doubts, Of),
-    memberchk(asserts, Of).
+    memberchk(adding, Of).
 test(expansion_of_another_file) :-
     modes(['a.pl'-"user:goal_expansion(q(X), loop(X)).\nloop(X) :- loop(X).\n", 'b.pl'-":- module(b, [p/1]).\np(X) :- q(X).\nq(_).\n"],
           all, _, Doubts),
