@@ -22,11 +22,21 @@ predicates as a drawing.
 %
 %   Answer is that of cti_file_answer/3 with the option calls(true).
 
-write_page(Answer, File) :-
-    numbered_predicates(Answer, Predicates),
+write_page(Answer0, File) :-
+    numbered_predicates(Answer0, Predicates),
+    title(Answer0, Title),
+    with_included(Answer0, Answer),
     setup_call_cleanup(open(File, write, Out, [encoding(utf8)]),
-                       with_output_to_stream(Out, page(Answer, Predicates)),
+                       with_output_to_stream(Out, page(Title, Answer, Predicates)),
                        close(Out)).
+
+%   with_included(+Answer0, -Answer): files has also those that others include.
+
+with_included(Answer0, Answer) :-
+    findall(Path, ( member(Predicate, Answer0.predicates), Path = Predicate.file ), Paths),
+    append(Answer0.files, Paths, All),
+    list_to_set(All, Files),
+    Answer = Answer0.put(files, Files).
 
 :- meta_predicate with_output_to_stream(+, 0).
 
@@ -39,8 +49,7 @@ with_output_to_stream(Out, Goal) :-
 numbered_predicates(Answer, Predicates) :-
     findall(Id-Predicate, nth1(Id, Answer.predicates, Predicate), Predicates).
 
-page(Answer, Predicates) :-
-    title(Answer, Title),
+page(Title, Answer, Predicates) :-
     escaped(Title, EscapedTitle),
     style(Style),
     format("<!DOCTYPE html>~n<html lang=\"en\">~n<head>~n<meta charset=\"utf-8\"/>~n\
@@ -135,7 +144,10 @@ table(Predicates, Answer) :-
 row(Id, Predicate, Answer) :-
     _{name:Name, file:Path, line:Line, exported:Exported, reason_text:Reason} :< Predicate,
     status(Predicate, Status),
-    format("<tr class=\"~w\"><td class=\"where\">", [Status]),
+    (   Line >= 1
+    ->  format("<tr class=\"~w\"><td class=\"where\">", [Status])
+    ;   format("<tr class=\"~w\" id=\"p~d\"><td class=\"where\">", [Status, Id])     % no clause to lead to
+    ),
     line_link(Path, Line, Answer),
     term_escaped(Name, NameText),
     format("</td><td class=\"name\"><a href=\"#p~d\">~s</a>", [Id, NameText]),

@@ -79,6 +79,16 @@ kept(Page, Text) :-
     program(File),
     page([File], Page, Text).
 
+%   lost_links(+Page, -Lost): those that lead nowhere.
+
+lost_links(Page, Lost) :-
+    findall(Id, ( xpath(Page, //(*), element(_, Attributes, _)), member(id=Id, Attributes) ), Ids),
+    is_set(Ids),
+    findall(Link,
+            ( xpath(Page, //(*), element(_, Attributes, _)), member(href=Link, Attributes),
+              atom_concat(#, Id, Link), \+ memberchk(Id, Ids) ),
+            Lost).
+
 
 :- begin_tests(page).
 
@@ -94,12 +104,12 @@ test(nothing_from_elsewhere) :-
     \+ ( xpath(Page, //(*), element(_, Attributes, _)), member(href=Link, Attributes), \+ sub_atom(Link, 0, _, _, #) ).
 test(links_lead_somewhere, Lost == []) :-
     kept(Page, _),
-    findall(Id, ( xpath(Page, //(*), element(_, Attributes, _)), member(id=Id, Attributes) ), Ids),
-    is_set(Ids),
-    findall(Link,
-            ( xpath(Page, //(*), element(_, Attributes, _)), member(href=Link, Attributes),
-              atom_concat(#, Id, Link), \+ memberchk(Id, Ids) ),
-            Lost).
+    lost_links(Page, Lost).
+test(links_to_what_has_no_clause_and_what_is_included, Lost == []) :-
+    page(["a.pl"-":- dynamic d/1.\n:- include(b).\np(X) :- d(X), q(X).\n", "b.pl"-"q(X) :- q(X).\n"], Page, _),
+    findall(Name, ( xpath(Page, //table(@class=predicates)//td(@class=name)/a, Link), text_of(Link, Name) ), Names),
+    msort(Names, ["d/1", "p/1", "q/1"]),
+    lost_links(Page, Lost).
 test(text_is_the_files, Lines == [":- module(a, [app/3, q/1]).", "app([], L, L).", "app([H|T], L, [H|R]) :-",
                                   "    app(T, L, R).", "q(X) :- X \\== \"<&>\",", "    q(X), true.", "r(X) :- call(X).1"]) :-
     kept(Page, _),
