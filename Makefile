@@ -10,8 +10,9 @@ ZSH_COMPLETION = $(SHARE)/zsh/site-functions/_cti
 FISH_COMPLETION = $(SHARE)/fish/vendor_completions.d/cti.fish
 FILE_MANUAL = $(SHARE)/man/man1/cti-file.1
 CONVERTER = $(SHARE)/cti/swi
-CONVERTER_FILES = analyses.pl answer_text.pl asking.pl components.pl cti.pl cti_file.pl doubtful_libraries.pl file_doubts.pl note_reading.pl patterns.pl \
-  places.pl pure_program.pl real_builtins.pl real_goals.pl real_modules.pl real_source.pl reasons.pl
+CONVERTER_FILES = analyses.pl answer_text.pl asking.pl call_drawing.pl components.pl cti.pl cti_file.pl cti_page.pl \
+  cti_report.pl doubtful_libraries.pl file_doubts.pl note_reading.pl patterns.pl places.pl pure_program.pl real_builtins.pl \
+  real_goals.pl real_modules.pl real_source.pl reasons.pl requirements.pl source_text.pl trust.pl
 
 bin/cti: $(shell find crates -name '*.rt' -o -name '*.antt' | grep -v /out/) crates.txt
 	@tools/build.py $(JOBS)
@@ -33,11 +34,14 @@ install: bin/cti
 	install -D -m 755 swi/cti-file $(CONVERTER)/cti-file
 	printf '#!/bin/sh\nexec $(PREFIX)/share/cti/swi/cti-file "$$@"\n' > $(DESTDIR)$(PREFIX)/bin/cti-file
 	chmod 755 $(DESTDIR)$(PREFIX)/bin/cti-file
+	install -D -m 755 swi/cti-hold $(CONVERTER)/cti-hold
+	printf '#!/bin/sh\nexec $(PREFIX)/share/cti/swi/cti-hold "$$@"\n' > $(DESTDIR)$(PREFIX)/bin/cti-hold
+	chmod 755 $(DESTDIR)$(PREFIX)/bin/cti-hold
 	install -D -m 644 man/cti-file.1 $(FILE_MANUAL)
 
 uninstall:
 	rm -f $(DESTDIR)$(PREFIX)/bin/cti $(MANUAL) $(BASH_COMPLETION) $(ZSH_COMPLETION) $(FISH_COMPLETION)
-	rm -f $(DESTDIR)$(PREFIX)/bin/cti-file $(FILE_MANUAL)
+	rm -f $(DESTDIR)$(PREFIX)/bin/cti-file $(DESTDIR)$(PREFIX)/bin/cti-hold $(FILE_MANUAL)
 	rm -rf $(SHARE)/cti
 
 clean:

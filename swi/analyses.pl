@@ -1,6 +1,7 @@
 :- module(analyses,
           [ analysed/6,                 % +PureFile, +Prefix, +Names, +Kinds, -Found, +Options
-            minimal_modes/2             % +Modes, -Minimal
+            minimal_modes/2,            % +Modes, -Minimal
+            asks_less/2                 % +By, +Other
           ]).
 
 /** <module> All that cti finds of a pure program
@@ -202,6 +203,10 @@ follows_from_another(Modes, Mode) :-
     asks_less(Other.by, Mode.by),
     subset(Other.arguments, Mode.arguments),
     !.
+
+%!  asks_less(+By, +Other) is semidet.
+%
+%   What a mode by By asks for is known wherever what one by Other asks for is.
 
 asks_less(By, By).
 asks_less(length, ground).

@@ -24,6 +24,7 @@ print_answer(Answer) :-
     ;   format("~nassumed:~n"),
         forall(member(Assumption, Answer.assumptions), print_assumption(Assumption))
     ),
+    print_trusts(Answer.trusts),
     format("~nAlways assumed: no cyclic terms, and no attributed variables in the query. "),
     format("Not proved: that the pure program~ncovers the file. See docs/real-files.md.~n"),
     print_unchecked(Answer),
@@ -56,6 +57,20 @@ print_unchecked(Answer) :-
         format("since no command reads it.~n")
     ;   true
     ).
+
+print_trusts([]) :- !.
+print_trusts(Trusts) :-
+    format("~ntrusted:~n"),
+    forall(member(Trust, Trusts), print_trust(Trust)).
+
+print_trust(Trust) :-
+    _{file:File, line:Line, predicate:PI, used:Used} :< Trust,
+    file_shown(File, Shown),
+    (   Used == true
+    ->  Text = "it ends"
+    ;   Text = "not needed, as nothing is assumed of it"
+    ),
+    format("      ~w:~w: ~q: ~w~n", [Shown, Line, PI, Text]).
 
 %!  print_reply(+Reply:dict, +Answer:dict) is det.
 %

@@ -365,7 +365,7 @@ lacking_calls(Known, Lacking) :-
     findall(Callee-call(Pattern, Path, Line, Column),
             ( gen_assoc(Key, Reasoning.found, []),
               named_key(Key, Named),
-              \+ Named = system:_,
+              is_own(Named, Reasoning),
               get_assoc(Key, Reasoning.clauses, Clauses),
               get_assoc(Key, Reasoning.components, Component),
               member(Clause, Clauses),

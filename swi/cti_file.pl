@@ -32,6 +32,7 @@ module is not proved; what cti says of the pure program is.
 :- use_module(real_builtins, [is_harmless_name/1, is_protected/1]).
 :- use_module(real_source).
 :- use_module(reasons).
+:- use_module(trust).
 
 %!  cti_file_modes(+File, -Modes, -Assumptions) is det.
 %!  cti_file_modes(+File, -Modes, -Assumptions, +Options) is det.
@@ -86,10 +87,11 @@ ground_sets(Modes, Sets) :-
 %
 %   Answer is
 %
-%       answer{ file, files, predicates, assumptions, certificates, unanswered, unread }
+%       answer{ file, files, predicates, assumptions, trusts, certificates, unanswered, unread }
 %
 %   with the path of File, all paths that were asked for, the predicates of
-%   the file in the order of its lines, what is assumed, and a list of
+%   the file in the order of its lines, what is assumed, what its author trusts
+%   (trust{file, line, predicate, used}), and a list of
 %
 %       certificate{kind, facts, checked}
 %
@@ -125,11 +127,19 @@ ground_sets(Modes, Sets) :-
 %       For all that is asked of cti; 12 by default.
 %     - check(+Boolean)
 %       If `true` (default), certificates are checked by `cti check`.
+%     - trust(+File)
+%       Has more of what is trusted. There may be several.
+%     - calls(+Boolean)
+%       If `true`, Answer has calls too: a list of calls(Path, Name, Called), one for
+%       each predicate, where Called is a list of Path-Name. What is called through
+%       a library, as a goal of maplist/3, is among them.
 %     - keep(+Directory)
 %       Writes the pure program and its certificates there.
 
 cti_file_answer(File, Answer, Options) :-
-    with_analysis(File, Known, answer(Known, Answer), Options).
+    with_analysis(File, Known,
+                  ( answer(Known, Answer0), with_calls(Known, Answer0, Answer, Options) ),
+                  Options).
 
 %!  cti_file_ask(+File, +Query, -Reply:dict, -Answer:dict, +Options) is det.
 %
@@ -180,13 +190,26 @@ is_own_key(Source, Module:PI) :-
 
 with_analysis(File, Known, Goal, Options) :-
     forget_places,
-    read_sources(File, Project),
-    covering_program(Project, Program),
+    read_sources(File, Project0),
+    trusts(Project0, Trusts, Untrusted, Options),
+    Project = Project0.put(trusts, Trusts),
+    covering_program(Project, Program0),
+    discharged(Program0, Project, Trusts, Program, Used),
     setup_call_cleanup(
         work_files(Project.path, Prefix, Options),
-        ( known(Project, Program, Prefix, Known, Options),
+        ( known(Project, Program, Prefix, Known0, Options),
+          Known = Known0.put(_{trusts:Trusts, used_trusts:Used, untrusted:Untrusted}),
           once(Goal) ),
         forget_work_files(Prefix, Options)).
+
+%   Those of the files, and of the files of the options trust(File).
+
+trusts(Project, Trusts, Unread, Options) :-
+    maplist(file_trusts, Project.files, Own, Lists),
+    append(Lists, Unread),
+    findall(Kept, ( member(trust(File), Options), kept_trusts(File, Kept) ), Others),
+    append(Own, OwnTrusts),
+    append([OwnTrusts|Others], Trusts).
 
 known(Project, Program, Prefix, Known, Options) :-
     Project.sources = [Source|_],
@@ -211,9 +234,72 @@ answer(Known, Answer) :-
               _{analysis:Analysis, facts:Facts, checked:Checked} :< Result,
               length(Facts, Count) ),
             Certificates),
-    findall(Place, ( member(Source, Project.sources), member(Place, Source.unread) ), Unread),
+    findall(trust{file:File, line:Line, predicate:PI, used:Used},
+            ( member(Trust, Known.trusts),
+              Trust = trust(File, Line, PI),
+              (   memberchk(Trust, Known.used_trusts)
+              ->  Used = true
+              ;   Used = false
+              ) ),
+            Trusts),
+    findall(Place, ( member(Source, Project.sources), member(Place, Source.unread) ), Unread0),
+    append(Unread0, Known.untrusted, Unread),
     Answer = answer{file:Project.path, files:Project.files, predicates:Predicates, assumptions:Assumptions,
-                    certificates:Certificates, unanswered:Found.unanswered, unread:Unread}.
+                    trusts:Trusts, certificates:Certificates, unanswered:Found.unanswered, unread:Unread}.
+
+with_calls(Known, Answer0, Answer, Options) :-
+    (   option(calls(true), Options)
+    ->  own_calls(Known, Calls),
+        Answer = Answer0.put(calls, Calls)
+    ;   Answer = Answer0
+    ).
+
+own_calls(Known, Calls) :-
+    own_keys(Known.project, Own),
+    findall(Key-(File-Name),
+            ( member(Key-Path, Own),
+              once(( member(Source, Known.project.sources), Source.path == Path )),
+              shown(Key, Source.module, Name),
+              key_place(Key, Source, Known.project.path, File, _, _) ),
+            Pairs),
+    list_to_assoc(Pairs, Names),
+    findall(calls(File, Name, Called),
+            ( member(Key-(File-Name), Pairs),
+              reached(Key, Known.graph, Names, Called) ),
+            Calls).
+
+%   reached(+Key, +Graph, +Names, -Called): those that have Names, and are called
+%   by Key, or by what it calls that has none.
+
+reached(Key, Graph, Names, Called) :-
+    successors(Key, Graph, Successors),
+    empty_assoc(Seen),
+    reached(Successors, Graph, Names, Seen, Called0),
+    sort(Called0, Called).
+
+reached([], _, _, _, []).
+reached([Key|Keys], Graph, Names, Seen, Called) :-
+    (   get_assoc(Key, Seen, _)
+    ->  reached(Keys, Graph, Names, Seen, Called)
+    ;   put_assoc(Key, Seen, seen, Seen1),
+        (   get_assoc(Key, Names, Name)
+        ->  Called = [Name|More], Next = Keys
+        ;   Key = special(Predicate, _), get_assoc(Predicate, Names, Name)
+        ->  Called = [Name|More],
+            successors(Key, Graph, Successors),
+            append(Successors, Keys, Next)
+        ;   Called = More,
+            successors(Key, Graph, Successors),
+            append(Successors, Keys, Next)
+        ),
+        reached(Next, Graph, Names, Seen1, More)
+    ).
+
+successors(Key, Graph, Successors) :-
+    (   get_assoc(Key, Graph, Successors)
+    ->  true
+    ;   Successors = []
+    ).
 
 %   work_files(+Path, -Prefix, +Options): what the names of the files for cti
 %   begin with.

@@ -18,7 +18,7 @@ terms. Lines and columns count from 1.
 :- use_module(library(lists)).
 :- use_module(library(readutil)).
 
-:- dynamic kept_file/2, kept_line/3.
+:- dynamic kept_file/2, kept_line/3, kept_clause/4.
 
 %!  forget_places is det.
 %
@@ -26,7 +26,8 @@ terms. Lines and columns count from 1.
 
 forget_places :-
     retractall(kept_file(_, _)),
-    retractall(kept_line(_, _, _)).
+    retractall(kept_line(_, _, _)),
+    retractall(kept_clause(_, _, _, _)).
 
 %!  place_of_line(+Place, +Path, -File, -Line, -Column) is det.
 %
@@ -86,11 +87,22 @@ has_text(File, Text) :-
 %   predicate PI that begins at Line of File. Operators is the module whose
 %   operators the text has.
 
-clause_at(File, Line, Operators, Name/Arity, Clause) :-
+clause_at(File, Line, Operators, PI, Clause) :-
+    (   kept_clause(Line, File, PI, Kept)
+    ->  true
+    ;   read_clause(File, Line, Operators, PI, Read)
+    ->  Kept = found(Read),
+        assertz(kept_clause(Line, File, PI, Kept))
+    ;   Kept = none,
+        assertz(kept_clause(Line, File, PI, Kept))
+    ),
+    Kept = found(Clause).
+
+read_clause(File, Line, Operators, PI, Clause) :-
     member(Most, [60, 3000]),
     lines_from(File, Line, Most, Text),
     setup_call_cleanup(open_string(Text, In),
-                       clause_in(In, Operators, Name/Arity, Term, Positions, Names),
+                       clause_in(In, Operators, PI, Term, Positions, Names),
                        close(In)),
     !,
     Clause = clause{term:Term, positions:Positions, names:Names, file:File, line:Line, text:Text}.
@@ -335,7 +347,7 @@ comment_head(Term, Head, More) :-
 argument_letter(Argument, Letter) :-
     (   nonvar(Argument), Argument = Typed:_, nonvar(Typed)
     ->  argument_letter(Typed, Letter)
-    ;   nonvar(Argument),
+    ;   compound(Argument),
         compound_name_arguments(Argument, Mark, [_]),
         memberchk(Mark, [+, ++, :, !])
     ->  Letter = b

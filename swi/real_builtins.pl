@@ -512,7 +512,7 @@ harmless_directives(
       use_foreign_library/2, load_foreign_library/1, load_foreign_library/2, compile_predicates/1, encoding/1, expects_dialect/1, op/3,
       add_import_module/3, set_base_module/1, '$set_source_module'/1, '$set_source_module'/2, create_prolog_flag/3,
       style_check/1, license/1, license/2, set_module/1, begin_tests/1, begin_tests/2, end_tests/1, set_test_options/1,
-      if/1, elif/1, else/0, endif/0, debug/1, nodebug/1, format_predicate/2 ]).
+      if/1, elif/1, else/0, endif/0, debug/1, nodebug/1, format_predicate/2, trust/1 ]).
 harmless_directives(
     [ predicate_options/3, setting/4, record/1, html_meta/1, html_resource/2, http_handler/3, rdf_meta/1, rdf_register_ns/2,
       rdf_register_ns/3, rdf_register_prefix/2, rdf_register_prefix/3, rdf_prefix/2, listen/2, listen/3, lazy_list_iterator/4,

@@ -32,6 +32,7 @@ docs/real-files.md says for each doubt what is assumed.
 :- use_module(real_builtins).
 :- use_module(real_modules).
 :- use_module(real_source).
+:- use_module(trust, [is_trusted/4]).
 
 :- dynamic constant_copy/2, arity_is_name/0.
 
@@ -400,10 +401,21 @@ plain_goal(@(G, M), Context, P) -->
     goal(G, Context, P).
 plain_goal(G, Context, P) -->
     { resolved(G, Context, Where) },
-    (   { Context.directive == yes, Where \= own(_) }
+    (   { trusted_call(Where, Context, Predicate) }
+    ->  { P = true },
+        note(Context, external(Predicate))
+    ;   { Context.directive == yes, Where \= own(_) }
     ->  directive_goal(G, Where, Context, P)
     ;   goal_of(Where, G, Context, P)
     ).
+
+%   The author vouches for what is called: its clauses are not looked at.
+
+trusted_call(Where, Context, Predicate) :-
+    get_dict(trusts, Context.project, Trusts),
+    Trusts \== [],
+    ( Where = own(Predicate) ; Where = exported(_, Predicate) ),
+    is_trusted(Predicate, Context.source.module, Trusts, Context.project).
 
 directive_goal(G, Where, Context, P) -->
     (   { is_harmless_directive(G) }

@@ -64,6 +64,7 @@ file, and Path:Number in any other. A source is a dict:
 :- use_module(library(yall)).
 :- use_module(file_doubts).
 :- use_module(real_builtins, [flag_kind/2]).
+:- use_module(trust, [is_trust_line/2]).
 
 :- dynamic kept_header/2, kept_reexports/2.
 
@@ -316,6 +317,9 @@ item((:- Directive), Line, _, State0, State, Items, Items) :-
     !.
 item(_, _, _, State, State, Items, Items) :-
     is_skipped(State.conditions),
+    !.
+item('$unread'(place(Path, Line, _, _)), _, _, State, State, Items, Items) :-
+    is_trust_line(Path, Line),
     !.
 item('$unread'(Place), Line, _, State, State, [doubt(Line, unread), unread(Place)|Items], Items) :- !.
 item([Term|Terms], Line, In, State0, State, Items, Rest) :-

@@ -3,6 +3,7 @@
             reason/5,                   % +Key, +Reasoning, -Reason, -Text, -Places
             call_need/7,                % +Key, +Clause, +Goal, +Found, +Reasoning, -Text, -Places
             call_place/7,               % +Key, +Clause, +Goal, +Reasoning, -Path, -Line, -Column
+            is_own/2,                   % +Key, +Reasoning
             shown/3                     % +Key, +Module, -Shown
           ]).
 
@@ -58,11 +59,14 @@ reasoning(Known, Reasoning) :-
               get_assoc(Name, ByName, Key) ),
             LengthNotes),
     ground_rows(First.facts, ByName, Grounds),
+    findall(Key-Clause, ( member(predicate(Key, Clauses, _), Known.program), member(Clause, Clauses) ), AllClauses),
+    compound_name_arguments(Numbered, clauses, AllClauses),
     first_numbers(Known.program, 1, Numbers0),
     list_to_assoc(Numbers0, Numbers),
     Reasoning = reasoning{project:Known.project, source:Known.source, program:Known.program, clauses:ClausesOf,
                           modes:First.modes, found:Known.found.modes, given_up:GivenUp, notes:Notes, by:First.by,
-                          components:ComponentOf, grounds:Grounds, numbers:Numbers, length_notes:LengthNotes}.
+                          components:ComponentOf, grounds:Grounds, numbers:Numbers, numbered:Numbered,
+                          length_notes:LengthNotes}.
 
 transposed(Names, ByName) :-
     findall(Name-Key, member(Key-Name, Names), Pairs0),
@@ -256,10 +260,12 @@ inner_cause(Key, Seen, Known, Depth, Text) :-
     ).
 
 inner_call(at(Number, Goal), Known, Callee) :-
-    clause_number(Known.program, Number, _, clause(_, Goals, _)),
+    arg(Number, Known.numbered, _-clause(_, Goals, _)),
     nth1(Goal, Goals, call(Callee, _)).
 
-%   is_own(+Key, +Known): the predicate is one of the file's.
+%!  is_own(+Key, +Reasoning:dict) is semidet.
+%
+%   The predicate is one of the files that are asked for.
 
 is_own(Key, Known) :-
     Key = _:_,
@@ -277,7 +283,7 @@ is_root(Source, Known) :-
 %   are the variables of the goal of which the pure program knows nothing.
 
 seen_call(Known, at(Number, GoalNumber), Seen) :-
-    clause_number(Known.program, Number, Key, Clause),
+    arg(Number, Known.numbered, Key-Clause),
     seen_goal(Known, Key, Clause, GoalNumber, Seen).
 
 seen_goal(Known, Key, clause(Args, Goals, Place), GoalNumber, Seen) :-
@@ -702,14 +708,3 @@ first_points(Count, [Fact|Facts], Calls) :-
     ;   first_points(Count, Facts, Calls)
     ).
 first_points(_, [], []).
-
-%   clause_number(+Program, +Number, -Key, -Clause)
-
-clause_number([predicate(Key0, Clauses, _)|Program], Number, Key, Clause) :-
-    length(Clauses, Count),
-    (   Number =< Count
-    ->  nth1(Number, Clauses, Clause),
-        Key = Key0
-    ;   Next is Number - Count,
-        clause_number(Program, Next, Key, Clause)
-    ).

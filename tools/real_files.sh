@@ -9,7 +9,7 @@ here=$(dirname "$0")
 : > "$rows"
 for file in "$@"; do
     before=$(wc -l < "$rows")
-    said=$(timeout 15 "$here/../swi/cti-file" --timeout=12 --row "$file" 2>&1 >> "$rows" < /dev/null)
+    said=$(timeout 15 "$here/../swi/cti-file" --timeout=10 --row "$file" 2>&1 >> "$rows" < /dev/null)
     status=$?
     if [ "$(wc -l < "$rows")" -eq "$before" ]; then
         said=$(printf '%s' "$said" | head -1 | tr -d "'\\\\")
