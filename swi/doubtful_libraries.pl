@@ -29,12 +29,9 @@ without_doubtful(Project, Program0, Program) :-
     doubtful_keys(Others, Doubtful),
     empty_assoc(Empty),
     foldl(left_out_key(Project), Doubtful, Empty, LeftOut),
-    (   empty_assoc(LeftOut)
-    ->  Program = Program0
-    ;   exclude(is_left_out(LeftOut), Program0, Kept0),
-        maplist(without_calls(LeftOut), Kept0, Kept),
-        reachable(Own, Kept, Program)
-    ).
+    exclude(is_left_out(LeftOut), Program0, Kept0),
+    maplist(without_calls(LeftOut), Kept0, Kept),
+    reachable(Own, Kept, Program).
 
 is_of_roots(Project, predicate(Key, _, _)) :-
     named_key(Key, Named),
@@ -97,11 +94,12 @@ noted_call(Line, call(Key, _), Notes, [note(Line, external(Named))|Notes]) :-
 calls_left_out(LeftOut, call(Key, _)) :-
     get_assoc(Key, LeftOut, _).
 
-%   reachable(+Own, +Kept, -Program): what the predicates Own still call.
+%   reachable(+Own, +Kept, -Program): what the predicates Own still call. A copy
+%   or a part of one of them may be called no more.
 
 reachable(Own, Kept, Program) :-
     program_graph(Kept, Graph),
-    findall(Key, member(predicate(Key, _, _), Own), Keys),
+    findall(Key, ( member(predicate(Key, _, _), Own), \+ memberchk(Key, [special(_, _), part(_, _)]) ), Keys),
     empty_assoc(Empty),
     reached(Keys, Graph, Empty, Reached),
     include(is_reached(Reached), Kept, Program).

@@ -347,7 +347,7 @@ comment_head(Term, Head, More) :-
 argument_letter(Argument, Letter) :-
     (   nonvar(Argument), Argument = Typed:_, nonvar(Typed)
     ->  argument_letter(Typed, Letter)
-    ;   nonvar(Argument),
+    ;   compound(Argument),
         compound_name_arguments(Argument, Mark, [_]),
         memberchk(Mark, [+, ++, :, !])
     ->  Letter = b

@@ -117,15 +117,22 @@ covered(Key, Project, [predicate(Key, Clauses, Notes)|Parts], Needs) :-
 
 left_out(Key, [predicate(Key, [clause(Args, [], 0)], [note(0, left_out)])]) :-
     (   Key = special(_, Closures)
-    ->  include(==(-), Closures, Others),
-        findall(N, ( sub_term(Sub, Closures), nonvar(Sub), Sub = '$VAR'(N) ), Ns0),
-        sort(Ns0, Ns),
-        append(Others, Ns, Arguments)
-    ;   Key = _:_/Arity,
-        length(Arguments, Arity)
+    ->  closures_arity(Closures, Arity)
+    ;   Key = _:_/Arity
     ),
-    same_length(Arguments, Args0),
+    length(Args0, Arity),
     packed(Args0, Args).
+
+%   closures_arity(+Closures, -Arity): of the predicate with these closures, the
+%   other arguments and the closures' variables.
+
+closures_arity(Closures, Arity) :-
+    include(==(-), Closures, Others),
+    findall(N, ( sub_term(Sub, Closures), nonvar(Sub), Sub = '$VAR'(N) ), Ns0),
+    sort(Ns0, Ns),
+    length(Others, OtherCount),
+    length(Ns, Count),
+    Arity is OtherCount + Count.
 
 %   with_cyclic(+Program0, -Program): with a note for each clause whose goals
 %   are past by a cyclic term alone. cti never gets past them.
@@ -459,8 +466,9 @@ key_arity(_:_/Arity0, [], Arity) :-
     most_arguments(Most),
     Arity is min(Arity0, Most).
 key_arity(special(_, Closures), [], Arity) :-
-    include(==(-), Closures, Others),
-    length(Others, Arity).
+    closures_arity(Closures, Arity0),
+    most_arguments(Most),
+    Arity is min(Arity0, Most).
 
 write_clause(Out, Names, Key, clause(Args, Goals, _)) :-
     \+ \+ ( numbervars(Args-Goals, 0, _, [singletons(true)]),
