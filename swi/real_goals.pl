@@ -32,7 +32,7 @@ docs/real-files.md says for each doubt what is assumed.
 :- use_module(real_builtins).
 :- use_module(real_modules).
 :- use_module(real_source).
-:- use_module(trust, [is_trusted/4]).
+:- use_module(trust, [is_trusted/5]).
 
 :- dynamic constant_copy/2, arity_is_name/0.
 
@@ -401,9 +401,9 @@ plain_goal(@(G, M), Context, P) -->
     goal(G, Context, P).
 plain_goal(G, Context, P) -->
     { resolved(G, Context, Where) },
-    (   { trusted_call(Where, Context, Predicate) }
+    (   { trusted_call(Where, Context, Trust) }
     ->  { P = true },
-        note(Context, external(Predicate))
+        note(Context, trusted(Trust))
     ;   { Context.directive == yes, Where \= own(_) }
     ->  directive_goal(G, Where, Context, P)
     ;   goal_of(Where, G, Context, P)
@@ -411,11 +411,16 @@ plain_goal(G, Context, P) -->
 
 %   The author vouches for what is called: its clauses are not looked at.
 
-trusted_call(Where, Context, Predicate) :-
+trusted_call(Where, Context, Trust) :-
     get_dict(trusts, Context.project, Trusts),
     Trusts \== [],
-    ( Where = own(Predicate) ; Where = exported(_, Predicate) ),
-    is_trusted(Predicate, Context.source.module, Trusts, Context.project).
+    called_predicate(Where, Predicate),
+    is_trusted(Predicate, Context.module, Trusts, Context.project, Trust).
+
+called_predicate(own(Predicate), Predicate).
+called_predicate(exported(_, Predicate), Predicate).
+called_predicate(autoloaded(_, Predicate), Predicate).
+called_predicate(unknown(Predicate), Predicate).
 
 directive_goal(G, Where, Context, P) -->
     (   { is_harmless_directive(G) }

@@ -445,6 +445,20 @@ test(module, Numbers-Trusts == []-[(m:q/1)-used]) :-
     trusted(":- trust terminates(m:q/1).\np(X) :- m:q(X).\n", p/1, Numbers, Trusts).
 test(another_module, Trusts == [(n:q/1)-not_needed]) :-
     trusted(":- trust terminates(n:q/1).\np(X) :- m:q(X).\n", p/1, [_], Trusts).
+test(name_without_a_module_is_of_the_file, Trusts == [q/1-not_needed]) :-
+    trusted(":- trust terminates(q/1).\np(X) :- m:q(X).\n", p/1, [_], Trusts).
+test(name_without_a_module_is_not_of_another_file, Relying == [p/1]) :-
+    facts(["a.pl"-":- module(a, []).\n:- trust terminates(q/1).\np(X) :- q(X).\n",
+           "b.pl"-":- module(b, []).\np(X) :- q(X).\n"],
+          ['a.pl', 'b.pl'], Facts),
+    findall(PI, member(relies('b.pl', PI, _), Facts), Relying),
+    \+ memberchk(relies('a.pl', _, _), Facts).
+test(built_in, Numbers-Trusts == []-[thread_get_message/1-used]) :-
+    trusted(":- trust terminates(thread_get_message/1).\np(X) :- thread_get_message(X).\n", p/1, Numbers, Trusts).
+test(directive_that_calls, Numbers-Trusts == []-[q/0-used]) :-
+    trusted(":- trust terminates(q/0).\n:- q.\np(a).\n", p/1, Numbers, Trusts).
+test(goal_of_maplist, Numbers-Trusts == []-[q/1-used]) :-
+    trusted(":- trust terminates(q/1).\np(L) :- maplist(q, L).\n", p/1, Numbers, Trusts).
 test(several, Numbers-Trusts == []-[q/1-used, r/3-used]) :-
     trusted(":- trust terminates([q/1, r//1]).\np(X) :- q(X), phrase(r(X), []).\n", p/1, Numbers, Trusts).
 test(library, Numbers == []) :-

@@ -2,7 +2,7 @@
           [ file_trusts/3,              % +Path, -Trusts, -Unread
             kept_trusts/2,              % +Path, -Trusts
             is_trust_line/2,            % +Path, +Line
-            is_trusted/4,               % +Predicate, +From, +Trusts, +Project
+            is_trusted/5,               % +Predicate, +From, +Trusts, +Project, -Trust
             discharged/5                % +Program0, +Project, +Trusts, -Program, -Used
           ]).
 
@@ -177,63 +177,72 @@ without_marks(Term, Plain) :-
     ;   Plain = Term
     ).
 
+%!  is_trusted(+Predicate, +From, +Trusts, +Project:dict, -Trust) is semidet.
+%
+%   Trust is one of Trusts that names Predicate, which the module From calls.
+
+is_trusted(Predicate, From, Trusts, Project, Trust) :-
+    member(Trust, Trusts),
+    Trust = trust(Path, _, Named),
+    names(Named, Predicate, Path, From, Project),
+    !.
+
+names(Module:PI, Module:PI, _, _, _).
+names(user:Name/Arity, Name/Arity, _, _, _).
+names(Name/Arity, Predicate, Path, From, Project) :-
+    (   Predicate = Name/Arity
+    ;   Predicate = _:Name/Arity
+    ),
+    trusting_module(Path, Project, From).
+
+%   Those of --trust are for all files.
+
+trusting_module(Path, Project, Module) :-
+    (   member(Source, Project.sources),
+        Source.path == Path
+    ->  Module = Source.module
+    ;   member(Source, Project.sources),
+        Module = Source.module
+    ).
+
 %!  discharged(+Program0, +Project, +Trusts, -Program, -Used) is det.
 %
-%   Program is Program0 without the notes that say that a trusted predicate ends.
-%   Used are the Trusts on which that rests.
+%   Program is Program0 without the notes that say that something is trusted, or
+%   that a trusted predicate which is built in ends. Used are the Trusts on which
+%   that rests.
 
 discharged(Program, _, [], Program, []) :- !.
 discharged(Program0, Project, Trusts, Program, Used) :-
-    modules(Project, Modules),
-    maplist(without_trusted(Modules, Trusts), Program0, Program, Lists),
+    maplist(without_trusted(Project, Trusts), Program0, Program, Lists),
     append(Lists, All),
     sort(All, Used).
 
-modules(Project, Modules) :-
-    findall(Module, ( member(Source, Project.sources), Module = Source.module ), Modules).
+without_trusted(Project, Trusts, predicate(Key, Clauses, Notes0), predicate(Key, Clauses, Notes), Used) :-
+    findall(Note, ( member(Note, Notes0), \+ discharges(Note, Key, Project, Trusts, _) ), Notes),
+    findall(Trust, ( member(Note, Notes0), discharges(Note, Key, Project, Trusts, Trust) ), Used).
 
-%!  is_trusted(+Predicate, +From, +Trusts, +Project:dict) is semidet.
-%
-%   A trust names Predicate, which the module From calls.
+discharges(note(_, Doubt), Key, Project, Trusts, Trust) :-
+    doubts_trust(Doubt, Key, Project, Trusts, Trust).
 
-is_trusted(Module:PI, From, Trusts, Project) :-
-    (   memberchk(trust(_, _, Module:PI), Trusts)
-    ->  true
-    ;   memberchk(trust(_, _, PI), Trusts),
-        modules(Project, Modules),
-        memberchk(From, Modules)
-    ).
+doubts_trust(trusted(Trust), _, _, _, Trust).
+doubts_trust(directive(Doubt), Key, Project, Trusts, Trust) :-
+    doubts_trust(Doubt, Key, Project, Trusts, Trust).
+doubts_trust(risk(runs, PI), Key, Project, Trusts, Trust) :-
+    doubts_trust(external(system:PI), Key, Project, Trusts, Trust).
+doubts_trust(external(system:PI), Key, Project, Trusts, Trust) :-
+    key_module(Key, Project, Module),
+    is_trusted(system:PI, Module, Trusts, Project, Trust).
 
-without_trusted(Modules, Trusts, predicate(Key, Clauses, Notes0), predicate(Key, Clauses, Notes), Used) :-
-    findall(Note, ( member(Note, Notes0), \+ discharges(Note, Key, Modules, Trusts, _) ), Notes),
-    findall(Trust, ( member(Note, Notes0), discharges(Note, Key, Modules, Trusts, Trust) ), Used).
+%   Directives are of any of the files.
 
-discharges(note(_, Doubt), Key, Modules, Trusts, Trust) :-
-    doubts_end(Doubt, Named),
-    Trust = trust(_, _, PI),
-    member(Trust, Trusts),
-    names(PI, Named, Key, Modules).
-
-doubts_end(external(Named), Named).
-doubts_end(risk(runs, Named), Named).
-doubts_end(directive(Doubt), Named) :-
-    doubts_end(Doubt, Named).
-
-names(PI, PI, _, _).
-names(user:PI, PI, _, _) :-
-    PI = _/_.
-names(PI, _:PI, Key, Modules) :-
-    PI = _/_,
-    (   Key == directives
-    ->  true
-    ;   key_module(Key, Module),
-        memberchk(Module, Modules)
-    ).
-
-key_module(part(Key, _), Module) :-
+key_module(directives, Project, Module) :-
     !,
-    key_module(Key, Module).
-key_module(special(Key, _), Module) :-
+    member(Source, Project.sources),
+    Module = Source.module.
+key_module(part(Key, _), Project, Module) :-
     !,
-    key_module(Key, Module).
-key_module(Module:_, Module).
+    key_module(Key, Project, Module).
+key_module(special(Key, _), Project, Module) :-
+    !,
+    key_module(Key, Project, Module).
+key_module(Module:_, _, Module).
