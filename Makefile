@@ -11,8 +11,8 @@ FISH_COMPLETION = $(SHARE)/fish/vendor_completions.d/cti.fish
 FILE_MANUAL = $(SHARE)/man/man1/cti-file.1
 CONVERTER = $(SHARE)/cti/swi
 CONVERTER_FILES = analyses.pl answer_text.pl asking.pl call_drawing.pl components.pl cti.pl cti_file.pl cti_page.pl \
-  cti_report.pl doubtful_libraries.pl file_doubts.pl note_reading.pl patterns.pl places.pl pure_program.pl real_builtins.pl \
-  real_goals.pl real_modules.pl real_source.pl reasons.pl requirements.pl source_text.pl trust.pl
+  cti_report.pl doubtful_libraries.pl file_doubts.pl note_reading.pl patterns.pl places.pl pure_program.pl \
+  real_builtins.pl real_goals.pl real_modules.pl real_source.pl reasons.pl requirements.pl source_text.pl trust.pl
 
 bin/cti: $(shell find crates -name '*.rt' -o -name '*.antt' | grep -v /out/) crates.txt
 	@tools/build.py $(JOBS)

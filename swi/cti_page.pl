@@ -97,9 +97,9 @@ header(Title, Predicates, Answer) :-
     ->  format("<a class=\"chip\" href=\"#assumptions\"><b>~d</b> assumed</a>~n", [Assumptions])
     ;   true
     ),
-    format("</p>~n<p class=\"lead\">Each query that meets a mode ends, with all of its answers: <code>b</code> stands for a \
-ground argument, <code>l</code> for a list whose length is known, with any elements, or another term that is no variable, \
-and <code>f</code> for anything.</p>~n</header>~n").
+    format("</p>~n<p class=\"lead\">Each query that meets a mode ends, with all of its answers: <code>b</code> \
+stands for a ground argument, <code>l</code> for a list whose length is known, with any elements, or another term that \
+is no variable, and <code>f</code> for anything.</p>~n</header>~n").
 
 status_count(Status, Predicates, Count) :-
     findall(Id, ( member(Id-Predicate, Predicates), status(Predicate, Status) ), Ids),
@@ -480,10 +480,12 @@ term_escaped(Term, Escaped) :-
 style("\
 :root { color-scheme: light dark; --back: #fafaf8; --panel: #ffffff; --line: #e2e3df; --text: #1f2328; --soft: #6a7078;
   --link: #2157a8; --ok: #14703f; --ok-back: #e0f2e6; --if: #7d5200; --if-back: #fbefcf; --none: #b02a1f;
-  --none-back: #fbe5e2; --comment: #6b7d6f; --string: #8a4b12; --variable: #5b3c99; --number: #1c6b82; --edge: #8a9099; }
+  --none-back: #fbe5e2; --comment: #6b7d6f; --string: #8a4b12; --variable: #5b3c99;
+  --number: #1c6b82; --edge: #8a9099; }
 @media (prefers-color-scheme: dark) {
   :root { --back: #14161a; --panel: #1b1e23; --line: #2d3138; --text: #d9dce1; --soft: #949aa3; --link: #8ab4f8;
-    --ok: #6fd39b; --ok-back: #17301f; --if: #e6b84f; --if-back: #33290f; --none: #ff938a; --none-back: #3b1c1a; --comment: #86998b;
+    --ok: #6fd39b; --ok-back: #17301f; --if: #e6b84f; --if-back: #33290f; --none: #ff938a;
+    --none-back: #3b1c1a; --comment: #86998b;
     --string: #e0a26b; --variable: #c0a6f2; --number: #79c3d8; --edge: #767d87; }
 }
 * { box-sizing: border-box; }

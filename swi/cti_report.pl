@@ -202,7 +202,8 @@ term_text(Term, Text) :-
 
 json_predicate(Report,
                _{name:Name, file:File, line:Line, column:Column, exported:Exported, recursion:Recursion,
-                 checked:Checked, modes:Modes, found_by:FoundBy, reason:Reason, not_shown:NotShown, assumptions:Numbers}) :-
+                 checked:Checked, modes:Modes, found_by:FoundBy, reason:Reason, not_shown:NotShown,
+                 assumptions:Numbers}) :-
     answer_offset(Report, Answer, Offset),
     member(Predicate, Answer.predicates),
     _{name:PI, file:Path, line:Line, column:Column, exported:Exported, recursion:Recursion0, modes:Modes0,

@@ -48,7 +48,9 @@ is_left_out(LeftOut, predicate(Key, _, _)) :-
 doubtful_keys(Program, Keys) :-
     program_graph(Program, Graph),
     components(Graph, Components),
-    findall(Key, ( member(predicate(Key, _, Notes), Program), member(note(_, Doubt), Notes), Doubt \= trusted(_) ), Noted0),
+    findall(Key,
+            ( member(predicate(Key, _, Notes), Program), member(note(_, Doubt), Notes), Doubt \= trusted(_) ),
+            Noted0),
     sort(Noted0, Noted),
     findall(Key-true, member(Key, Noted), Pairs),
     list_to_assoc(Pairs, Doubtful0),

@@ -1,6 +1,7 @@
 :- encoding(utf8).
 
-% Tests of the page of cti-file --html, read without a browser. Run them at the top of the repository, once bin/cti is built:
+% Tests of the page of cti-file --html, read without a browser. Run them at the top of the repository, once bin/cti is
+% built:
 %
 %     CTI=bin/cti swipl -g run_tests -t halt swi/test_page.pl
 
@@ -111,7 +112,8 @@ test(links_to_what_has_no_clause_and_what_is_included, Lost == []) :-
     msort(Names, ["d/1", "p/1", "q/1"]),
     lost_links(Page, Lost).
 test(text_is_the_files, Lines == [":- module(a, [app/3, q/1]).", "app([], L, L).", "app([H|T], L, [H|R]) :-",
-                                  "    app(T, L, R).", "q(X) :- X \\== \"<&>\",", "    q(X), true.", "r(X) :- call(X).1"]) :-
+                                  "    app(T, L, R).", "q(X) :- X \\== \"<&>\",", "    q(X), true.",
+                                  "r(X) :- call(X).1"]) :-
     kept(Page, _),
     findall(Line, ( xpath(Page, //td(@class=text), Cell), text_of(Cell, Line) ), Lines).
 test(modes_are_marks, Marks == ["app(l,f,f)", "app(f,f,l)", "q/1: no mode", "r(f)"]) :-
@@ -239,8 +241,8 @@ spans(Text, Spans) :-
 as_strings(Spans0, Spans) :-
     findall(Class-String, ( member(span(Class, Codes), Spans0), string_codes(String, Codes) ), Spans).
 
-test(classes, Spans == [[plain-"p(", variable-"X", plain-", ", 'number-token'-"12", plain-", ", string-"'a%'", plain-"). ",
-                         comment-"% c"]]) :-
+test(classes, Spans == [[plain-"p(", variable-"X", plain-", ", 'number-token'-"12", plain-", ", string-"'a%'",
+                         plain-"). ", comment-"% c"]]) :-
     spans("p(X, 12, 'a%'). % c\n", Spans).
 test(character, Spans == [['number-token'-"0'%", plain-" ", 'number-token'-"0'''", plain-" ",
                            'number-token'-"0'\\n"]]) :-

@@ -1,7 +1,7 @@
 :- encoding(utf8).
 
-% Tests of what cti-file says for programs, of --require, --trust and cti-hold. Run them at the top of the repository, once bin/cti
-% is built:
+% Tests of what cti-file says for programs, of --require, --trust and cti-hold. Run them at the top of the repository,
+% once bin/cti is built:
 %
 %     CTI=bin/cti swipl -g run_tests -t halt swi/test_report.pl
 
