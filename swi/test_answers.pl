@@ -62,7 +62,7 @@ has_text(Text, Part) :-
 ends(Text, Goal, Ends) :-
     gensym(loaded, Module),
     with_file(Text, File, load_files(Module:File, [silent(true)])),
-    call_with_inference_limit(forall(Module:Goal, true), 1_000_000, Result),
+    call_with_inference_limit(forall(Module:Goal, true), 100_000, Result),
     (   Result == inference_limit_exceeded
     ->  Ends = no
     ;   Ends = yes
@@ -440,6 +440,126 @@ graph(From, To, Text) :-
 edge(a, b).\nedge(b, c).\nedge(~w, ~w).\n", [From, To]).
 
 :- end_tests(questions).
+
+%   What is asked in a first course: question(Program, Pattern, Answer, Query, Ends),
+%   where Ends says whether the query, which meets the pattern, ends in SWI-Prolog.
+
+:- begin_tests(programs).
+
+question(ancestors, 'anc(b,f)', unknown, anc(a, _), yes).
+question(lists, 'rev(l,f)', yes, rev([_, _, _], _), yes).
+question(lists, 'rev(f,b)', no, rev(_, [a]), no).
+question(lists, 'mem(f,l)', yes, mem(_, [_, _]), yes).
+question(lists, 'mem(b,f)', no, mem(a, _), no).
+question(lists, 'len(l,f)', yes, len([_, _], _), yes).
+question(lists, 'len(f,b)', unknown, len(_, 2), no).
+question(peano, 'plus(f,f,b)', yes, plus(_, _, s(s(0))), yes).
+question(peano, 'times(b,b,f)', yes, times(s(s(0)), s(0), _), yes).
+question(peano, 'even(l)', unknown, even(s(_)), no).
+question(interpreter, 'solve(b)', yes, solve(nat(s(s(0)))), yes).
+question(visited, 'path(b,f,b,f)', unknown, path(a, _, [a], _), yes).
+question(accumulators, 'rev(b,f)', yes, rev([a, b], _), yes).
+question(trees, 'inorder(b,f,f)', yes, inorder(t(nil, a, nil), _, _), yes).
+question(trees, 'inorder(f,b,f)', no, inorder(_, [], _), no).
+question(rose_trees, 'leaves(b,f)', yes, leaves(node(a, [node(b, []), node(c, [])]), _), yes).
+question(cuts, 'disj(l,l)', yes, disj([a, b], [c, d]), yes).
+question(tokens, 'tokens(b,f)', yes, tokens([0'a, 0' , 0'b], _), yes).
+question(formulas, 'nnf(b,f)', yes, nnf(not(and(a, not(b))), _), yes).
+
+test(answer, [forall(question(Program, Pattern, Answer, _, _)), Said == Answer]) :-
+    program(Program, Text),
+    with_file(Text, File, cti_file_ask(File, Pattern, Reply, _, [])),
+    Said = Reply.answer.
+test(query, [forall(question(Program, _, _, Query, Ends)), Found == Ends]) :-
+    program(Program, Text),
+    copy_term(Query, Goal),
+    ends(Text, Goal, Found).
+
+program(ancestors, "\
+parent(a, b).
+parent(b, c).
+anc(X, Y) :- parent(X, Y).
+anc(X, Y) :- parent(X, Z), anc(Z, Y).
+").
+program(lists, "\
+rev([], []).
+rev([H|T], R) :- rev(T, S), app(S, [H], R).
+app([], L, L).
+app([H|T], L, [H|R]) :- app(T, L, R).
+mem(X, [X|_]).
+mem(X, [_|T]) :- mem(X, T).
+len([], 0).
+len([_|T], N) :- len(T, M), N is M + 1.
+").
+program(peano, "\
+plus(0, N, N).
+plus(s(M), N, s(K)) :- plus(M, N, K).
+times(0, _, 0).
+times(s(M), N, K) :- times(M, N, L), plus(N, L, K).
+even(0).
+even(s(s(N))) :- even(N).
+").
+program(interpreter, "\
+solve(true).
+solve((A, B)) :- solve(A), solve(B).
+solve(H) :- rule(H, B), solve(B).
+rule(nat(0), true).
+rule(nat(s(X)), nat(X)).
+").
+program(visited, "\
+:- use_module(library(lists)).
+edge(a, b).
+edge(b, a).
+path(X, X, _, [X]).
+path(X, Y, Seen, [X|P]) :- edge(X, Z), \\+ memberchk(Z, Seen), path(Z, Y, [Z|Seen], P).
+").
+program(accumulators, "\
+sum(L, S) :- sum(L, 0, S).
+sum([], S, S).
+sum([X|Xs], S0, S) :- S1 is S0 + X, sum(Xs, S1, S).
+rev(L, R) :- rev(L, [], R).
+rev([], R, R).
+rev([X|Xs], A, R) :- rev(Xs, [X|A], R).
+").
+program(trees, "\
+insert(nil, X, t(nil, X, nil)).
+insert(t(L, Y, R), X, t(L1, Y, R)) :- X @< Y, !, insert(L, X, L1).
+insert(t(L, Y, R), X, t(L, Y, R1)) :- insert(R, X, R1).
+inorder(nil) --> [].
+inorder(t(L, X, R)) --> inorder(L), [X], inorder(R).
+").
+program(rose_trees, "\
+:- use_module(library(apply)).
+:- use_module(library(lists)).
+size(node(_, Cs), N) :- maplist(size, Cs, Ns), sum_list(Ns, M), N is M + 1.
+leaves(node(X, []), [X]).
+leaves(node(_, Cs), L) :- Cs = [_|_], foldl([C, A, B]>>(leaves(C, Ls), append(A, Ls, B)), Cs, [], L).
+").
+program(cuts, "\
+sub([], _).
+sub([X|Xs], Ys) :- mem(X, Ys), !, sub(Xs, Ys).
+mem(X, [X|_]) :- !.
+mem(X, [_|T]) :- mem(X, T).
+disj([], _).
+disj([X|Xs], Ys) :- \\+ mem(X, Ys), disj(Xs, Ys).
+").
+program(tokens, "\
+tokens([], []).
+tokens([0' |Cs], Ts) :- !, tokens(Cs, Ts).
+tokens([C|Cs], [word([C|W])|Ts]) :- code_type(C, alpha), !, word(Cs, W, Rest), tokens(Rest, Ts).
+word([C|Cs], [C|W], Rest) :- code_type(C, alpha), !, word(Cs, W, Rest).
+word(Rest, [], Rest).
+").
+program(formulas, "\
+nnf(not(not(A)), B) :- !, nnf(A, B).
+nnf(not(and(A, B)), or(C, D)) :- !, nnf(not(A), C), nnf(not(B), D).
+nnf(not(or(A, B)), and(C, D)) :- !, nnf(not(A), C), nnf(not(B), D).
+nnf(and(A, B), and(C, D)) :- !, nnf(A, C), nnf(B, D).
+nnf(or(A, B), or(C, D)) :- !, nnf(A, C), nnf(B, D).
+nnf(L, L).
+").
+
+:- end_tests(programs).
 
 % The script: words, texts that cannot be read, and what is not in time.
 
