@@ -1,3 +1,4 @@
+-- Private.
 -- To believe, for modes over stated facts.
 -- Derivations of a program that calls open predicates: it has no clauses of them, and a world answers their atoms.
 --

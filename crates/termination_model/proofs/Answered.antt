@@ -18,7 +18,7 @@ use Rattle.cti_terms.proofs.Unifier.{unifier_unifies, applied_instance}
 use Rattle.linear_rows.specs.Rows.{Holds}
 use Rattle.termination_model.specs.grounds.Grounds.{HasArity, IsGround, IsClosedUnder}
 use Rattle.termination_model.specs.claims.Claims.{Claims, IsSized, IsInductive, Shows}
-use Rattle.termination_model.specs.claims.Stated.{Stated, Keeps, Agrees, Takes}
+use Rattle.termination_model.specs.claims.StatedFacts.{Stated, Keeps, Agrees, Takes}
 use Rattle.termination_model.specs.claims.Answered.{facts_of, AnswersKeep, AnswersAgree}
 use Rattle.termination_model.proofs.Facts.{each, one_arity, some_is}
 use Rattle.termination_model.proofs.BuiltinLaws.{KeptBy, builtin_keeps}

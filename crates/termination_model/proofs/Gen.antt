@@ -17,7 +17,7 @@ use Rattle.termination_model.specs.sizes.Rows.{IsUpper, Covers}
 use Rattle.termination_model.specs.grounds.Grounds.{truth_row}
 use Rattle.termination_model.specs.claims.Claims.{Admits, Descends, FallsOn, KeepsRule, Serves, Shows}
 use Rattle.termination_model.specs.claims.Descent.{mode_row}
-use Rattle.termination_model.specs.claims.Stated.{Keeps, Takes}
+use Rattle.termination_model.specs.claims.StatedFacts.{Keeps, Takes}
 use Rattle.termination_model.specs.examples.Gen.{atom_of, numeral, p_clause, q_clause, gen_program, first_of, gen_rows, is_gen, gen_facts, q_size, q_rigid, gen_measure, gen_claims, GenEnds, numeral_for, gives, GenHasNoNumber}
 use Rattle.termination_model.proofs.SystemPoints.{dot_total}
 use Rattle.term_size.specs.TermSize.{is_a_norm}

@@ -12,7 +12,7 @@ use Rattle.termination_model.specs.sizes.Stated.{AreStated}
 use Rattle.termination_model.specs.sizes.Systems.{row_over, system}
 use Rattle.termination_model.specs.grounds.Grounds.{HasArity, truth_row, IsGround, IsClosedUnder}
 use Rattle.termination_model.specs.claims.Claims.{SomeOf, Mapping, Measure, Claims, IsSized, IsInductive, IsRanked, FallsOn, Descends, Admits, KeepsRule, Serves, Shows}
-use Rattle.termination_model.specs.claims.Stated.{Stated, IsAllowed, Takes}
+use Rattle.termination_model.specs.claims.StatedFacts.{Stated, IsAllowed, Takes}
 use Rattle.termination_model.specs.claims.Linking.{joined, linked, linked_facts, IsUpperClause, IsLowerClause, Links, ClaimsLink, FactsLink, AdmitsLink, LinkedRowsEnd, LinkedQueriesEnd, FactsExtend}
 use Rattle.cti_terms.specs.Derive.{query}
 use Rattle.cti_terms.specs.Worlds.{World, BoundedIn}

@@ -11,7 +11,7 @@ use Rattle.termination_model.specs.sizes.Systems.{system}
 use Rattle.termination_model.specs.grounds.Grounds.{truth_row, IsGround, IsClosedUnder}
 use Rattle.termination_model.specs.claims.Claims.{SomeOf, Mapping, Measure, Claims, IsSized, IsInductive, IsRanked, level_row, fall_row, FallsOn, Descends, Admits, KeepsRule, Serves, Shows}
 use Rattle.termination_model.specs.claims.Renumbered.{atom_to, clause_to, mapping_to, measure_to, claims_to, Renumbers, RenumberedShow, RenumberedAdmit, RenumberedTake}
-use Rattle.termination_model.specs.claims.Stated.{IsAllowed}
+use Rattle.termination_model.specs.claims.StatedFacts.{IsAllowed}
 use Rattle.termination_model.proofs.Walk.{all_map, all_onto}
 use Rattle.termination_model.proofs.Views.{map_over}
 

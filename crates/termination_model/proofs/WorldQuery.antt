@@ -11,7 +11,7 @@ use Rattle.linear_rows.specs.Rows.{Holds}
 use Rattle.termination_model.specs.grounds.Grounds.{HasArity, truth_row, IsGround}
 use Rattle.termination_model.specs.claims.Claims.{Measure, Claims, IsSized, Shows}
 use Rattle.termination_model.specs.claims.Descent.{mode_row}
-use Rattle.termination_model.specs.claims.Stated.{Stated, IsAllowed, Keeps, Agrees, AllowsFirst, Takes, RowsEndIn, ModesEndIn}
+use Rattle.termination_model.specs.claims.StatedFacts.{Stated, IsAllowed, Keeps, Agrees, AllowsFirst, Takes, RowsEndIn, ModesEndIn}
 use Rattle.termination_model.proofs.BuiltinLaws.{KeptBy, builtin_goes}
 use Rattle.termination_model.proofs.Induction.{FrontLets}
 use Rattle.termination_model.proofs.Query.{meaning_of, meant}

@@ -1,6 +1,6 @@
 pub mod Claims
 pub mod Descent
-pub mod Stated
+pub mod StatedFacts
 pub mod Linking
 pub mod Answered
 pub mod Renumbered

@@ -3,7 +3,7 @@
 ghost use Rattle.termination_model.specs.claims.Answered.{AnswersAgree, AnswersKeep};
 ghost use Rattle.termination_model.specs.claims.Linking.{AdmitsLink, ClaimsLink, FactsExtend, FactsLink, LinkedQueriesEnd, LinkedRowsEnd};
 ghost use Rattle.termination_model.specs.claims.Renumbered.{RenumberedAdmit, RenumberedShow, RenumberedTake};
-ghost use Rattle.termination_model.specs.claims.Stated.{ModesEndIn, RowsEndIn};
+ghost use Rattle.termination_model.specs.claims.StatedFacts.{ModesEndIn, RowsEndIn};
 ghost use Rattle.termination_model.specs.columns.ColumnAnswered;
 ghost use Rattle.termination_model.specs.columns.ColumnLinking;
 ghost use Rattle.termination_model.specs.columns.ColumnStated;

@@ -1,3 +1,4 @@
+-- Private.
 -- To believe, for modes over stated facts.
 -- Claims are facts: what a program answers keeps its claims.
 --
@@ -16,7 +17,7 @@ use Rattle.cti_terms.specs.Resolve.{over}
 use Rattle.cti_terms.specs.Worlds.{Answer, World, reached_in}
 use Rattle.termination_model.specs.grounds.Grounds.{HasArity}
 use Rattle.termination_model.specs.claims.Claims.{Claims, Shows}
-use Rattle.termination_model.specs.claims.Stated.{Stated, Keeps, Agrees, Takes}
+use Rattle.termination_model.specs.claims.StatedFacts.{Stated, Keeps, Agrees, Takes}
 
 -- the size rows and ground rows that are claimed, with these modes, as facts of some predicates
 abbrev pub facts_of : Claims → (ℕ → Bool) → (ℕ → List (List ℕ)) → Stated

@@ -1,3 +1,4 @@
+-- Private.
 -- To believe, for modes over stated facts.
 -- Linking: claims of a program that takes facts of another's predicates, and the claims of that one, together.
 --
@@ -17,7 +18,7 @@ use Rattle.cti_terms.specs.Worlds.{World, BoundedIn}
 use Rattle.termination_model.specs.grounds.Grounds.{HasArity, truth_row}
 use Rattle.termination_model.specs.claims.Claims.{Measure, Claims, Admits, Shows}
 use Rattle.termination_model.specs.claims.Descent.{mode_row}
-use Rattle.termination_model.specs.claims.Stated.{Stated, Agrees, AllowsCalls, Takes}
+use Rattle.termination_model.specs.claims.StatedFacts.{Stated, Agrees, AllowsCalls, Takes}
 
 -- the clauses of both programs
 abbrev pub joined : Listing → Listing → Listing

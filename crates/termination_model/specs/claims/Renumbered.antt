@@ -1,3 +1,4 @@
+-- Private.
 -- To believe, for modes over stated facts.
 -- Claims of a program whose predicates have other numbers, and whose terms have other names.
 --
@@ -14,7 +15,7 @@ use Rattle.cti_terms.specs.Arithmetic.{kind_of}
 use Rattle.cti_terms.specs.Listing.{Listing}
 use Rattle.term_size.specs.Norm.{IsNorm}
 use Rattle.termination_model.specs.claims.Claims.{Mapping, Measure, Claims, Admits, Shows}
-use Rattle.termination_model.specs.claims.Stated.{Stated, Takes}
+use Rattle.termination_model.specs.claims.StatedFacts.{Stated, Takes}
 
 module _ (to : ℕ → ℕ) (renamed : Tree → Tree) where
   abbrev pub atom_to : Atom → Atom

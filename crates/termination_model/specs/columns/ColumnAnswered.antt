@@ -1,3 +1,4 @@
+-- Private.
 -- To believe, for modes over stated facts.
 -- Over columns, claims are facts: what a program answers keeps its claims.
 --

@@ -1,4 +1,4 @@
--- To believe, for the modes.
+-- Private.
 -- What is claimed of a program's predicates over columns, and what makes the claims show that queries end.
 --
 -- As Claims.antt, with columns in the place of arguments' sizes, and with mappings of whole numbers: a mapping does not

@@ -1,4 +1,4 @@
--- To believe, for the modes.
+-- Private.
 -- The theorem, over columns: of a query whose rigid arguments make an admitted row, all derivations are shorter than
 -- some bound.
 --

@@ -1,3 +1,4 @@
+-- Private.
 -- To believe, for modes over stated facts.
 -- Linking, over columns: claims of a program that takes facts of another's predicates, and the claims of that one, together.
 --

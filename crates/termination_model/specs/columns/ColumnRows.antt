@@ -1,4 +1,4 @@
--- To believe, for the modes.
+-- Private.
 -- Rows over an atom's columns, with an expression over variables in the place of each column.
 --
 -- A row that needs an expression which is not there has no row over the variables: in a system zeros stand for it.

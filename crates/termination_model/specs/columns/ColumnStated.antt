@@ -1,3 +1,4 @@
+-- Private.
 -- To believe, for modes over stated facts.
 -- What is stated of open predicates over columns, and the theorem over it, as in Stated.antt.
 --

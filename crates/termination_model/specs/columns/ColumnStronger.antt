@@ -1,3 +1,4 @@
+-- Private.
 -- To believe, for modes over stated facts.
 -- Over columns: claims with stronger facts of predicates that head no clause, as open and built-in ones.
 --

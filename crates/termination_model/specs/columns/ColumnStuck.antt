@@ -1,3 +1,4 @@
+-- Private.
 -- To believe, for the modes by lists of mappings of whole numbers.
 -- Stuck sets over columns: a set of calls, and for each of them a group of points, which exclude that a list falls first
 -- at this call.

@@ -1,4 +1,4 @@
--- To believe, for the modes.
+-- Private.
 -- A component as its measures see it, over columns: View.antt, with the columns of each atom.
 --
 -- To believe: all of this file, where mappings of a component are spoken of.

@@ -1,4 +1,4 @@
--- To believe, for the modes.
+-- Private.
 -- Columns: the naturals by which an atom's arguments are measured.
 --
 -- A valuation gives each variable `width` naturals. A term has a measure for each column number, and an atom's columns

@@ -1,3 +1,4 @@
+-- Private.
 -- To believe, for who is found and for answers that are not understood.
 -- Linear terms, and their measures as rows over the numbers of a clause's variables.
 --

@@ -1,4 +1,4 @@
--- To believe, for the modes.
+-- Private.
 -- Three measures of a term: its size, and what its value has above and below 0.
 --
 -- A term's value is what it has above 0 less what it has below. Both are sums of products of the variables' own, so

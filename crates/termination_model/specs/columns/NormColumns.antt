@@ -1,4 +1,4 @@
--- To believe, for the modes.
+-- Private.
 -- A norm as the case of one column for each argument.
 --
 -- To believe: `norm_columns`.

@@ -14,7 +14,7 @@ use Rattle.cti_terms.specs.Worlds.{Answer, World, IsDerivationAfter, BoundedIn}
 use Rattle.term_size.specs.Occurrences.{size_row}
 use Rattle.termination_model.specs.grounds.Grounds.{Family}
 use Rattle.termination_model.specs.claims.Claims.{Measure, Claims}
-use Rattle.termination_model.specs.claims.Stated.{Stated, Agrees, AllowsCalls}
+use Rattle.termination_model.specs.claims.StatedFacts.{Stated, Agrees, AllowsCalls}
 
 -- gen/1 is number 0, q/1 number 1, p/1 number 2
 abbrev pub atom_of : ℕ → Tree → Atom

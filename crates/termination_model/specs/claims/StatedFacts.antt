@@ -1,3 +1,4 @@
+-- Private.
 -- To believe, for modes over stated facts.
 -- What is stated of open predicates, and the theorem over it: in each world that agrees with what is stated, derivations
 -- of a query with an admitted row are shorter than some bound, and each open call on the way meets a stated mode.
