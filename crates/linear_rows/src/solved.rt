@@ -1,6 +1,7 @@
 //! What solving finds.
 
-use linear_rows::{Multipliers, Point};
+use crate::multipliers::Multipliers;
+use crate::point::Point;
 
 /// What solving finds of rows.
 #[derive(Drop)]
