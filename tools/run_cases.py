@@ -7,6 +7,7 @@ usage: tools/run_cases.py [PROGRAM [OTHER]]
 PROGRAM is bin/cti where none is named. With a second one, what both write on standard output has to be the same too.
 The head of crates/cases/src/main.rt says what the first byte of a line of the file means.
 """
+import re
 import subprocess
 import sys
 import tempfile
@@ -38,18 +39,17 @@ class Case:
 
     def counted(self, output):
         """The lines of an output that count."""
-        return b"".join(line for line in output.splitlines(keepends=True) if line.startswith(self.only))
+        return b"".join(line for line in lines(output) if line.startswith(self.only))
+
+
+def lines(text):
+    """The lines of a text, each with its newline, which alone ends one."""
+    return re.findall(rb"[^\n]*\n|[^\n]+", text)
 
 
 def changed(text, number, line):
     """A text with another line in the place of one, which is counted from 1."""
-    lines = text.splitlines(keepends=True)
-    return b"".join(line if n == number else old for n, old in enumerate(lines, 1))
-
-
-def split(rows):
-    """The lines of the file, which end in newlines alone."""
-    return [row + b"\n" for row in rows.split(b"\n")[:-1]]
+    return b"".join(line if n == number else old for n, old in enumerate(lines(text), 1))
 
 
 def cases(rows):
@@ -65,7 +65,7 @@ def cases(rows):
         elif purpose:
             found[-1].wanted = text
 
-    for row in split(rows):
+    for row in lines(rows):
         kind, rest = row[:2], row[2:-1]
         if row[:1] == b"|":
             text += row[1:]
