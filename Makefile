@@ -17,7 +17,7 @@ CONVERTER = $(SHARE)/cti/swi
 # The modules of swi/, without their tests and what describes the pack.
 CONVERTER_FILES = $(filter-out swi/pack.pl swi/test_%, $(wildcard swi/*.pl))
 LICENCES = LICENSE-MIT LICENSE-APACHE
-SOURCES = $(shell find crates -name '*.rt' -o -name '*.antt' | grep -v /out/) crates.txt
+SOURCES := $(shell find crates -name '*.rt' -o -name '*.antt' | grep -v /out/) crates.txt
 RELEASE = $(wildcard release/cti-*-x86_64-linux.tar.xz)
 
 bin/cti: $(SOURCES)

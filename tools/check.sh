@@ -24,6 +24,7 @@ is_new() {
 rt ci | tee "$said" || failed+=("rt ci")
 pass python3 -B tools/test_build.py
 pass python3 -B tools/test_run_cases.py
+pass python3 -B tools/test_dist.py
 pass tools/proved.py
 pass tools/crates.py --check
 pass tools/believe.py --check

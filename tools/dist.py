@@ -55,7 +55,15 @@ def strip(program):
     subprocess.run(["llvm-strip", "--strip-all-gnu", program], executable=clang, check=True)
 
 
-def fill(stage, tree, program, commit, version):
+PROVED = """Every function of bin/cti was proved before it was built from that commit by that kit. `make check-release`,
+in a clone and with the kit, builds it anew and compares. share/cti/swi/, the converter that bin/cti-file runs, is not
+proved; it needs SWI-Prolog.
+"""
+TRIAL = """This is a trial, with another program than the proved one in the place of bin/cti.
+"""
+
+
+def fill(stage, tree, program, commit, version, what):
     """Installs a tree's files with a program into a folder, and writes from what they were made."""
     install = ["make", "-s", "-C", tree, "install-files", f"PROGRAM={program}", f"DESTDIR={stage}", "PREFIX="]
     subprocess.run(install, check=True)
@@ -67,10 +75,7 @@ commit       {commit}
 kit          {said("rt", "version")}
 bin/cti      SHA-256 {digest}
 
-Every function of bin/cti was proved before it was built from that commit by that kit. `make check-release`, in a clone
-and with the kit, builds it anew and compares. share/cti/swi/, the converter that bin/cti-file runs, is not proved; it
-needs SWI-Prolog.
-"""
+{what}"""
     (stage / NOTE).write_text(note)
 
 
@@ -88,14 +93,14 @@ def archive(stage, name, seconds):
     return made.getvalue()
 
 
-def made(tree, program, commit):
+def made(tree, program, commit, what=PROVED):
     """The name of a release, and its tar file."""
     version = version_of(program)
     name = f"cti-{version}-{TARGET}"
     seconds = int(said("git", "-C", top, "show", "-s", "--format=%ct", commit))
     with tempfile.TemporaryDirectory(prefix="cti-dist-") as folder:
         stage = Path(folder) / name
-        fill(stage, tree, program, commit, version)
+        fill(stage, tree, program, commit, version, what)
         return name, archive(stage, name, seconds)
 
 
@@ -106,7 +111,7 @@ def make(program, to):
         sys.exit("dist.py: there are changes that are in no commit: commit them first, so that the release can name it")
     if re.search(r"(?m)^## Unreleased", (top / "CHANGELOG.md").read_text()):
         print("dist.py: CHANGELOG.md has changes that belong to no version yet", file=sys.stderr)
-    name, tar = made(top, program, commit)
+    name, tar = made(top, program, commit, PROVED if program == top / "bin" / "cti" else TRIAL)
     to.mkdir(parents=True, exist_ok=True)
     for old in to.glob(f"cti-*-{TARGET}.tar.xz*"):
         old.unlink()
@@ -121,6 +126,11 @@ def members(tar):
     """The files of an archive, each with its mode and text."""
     with tarfile.open(fileobj=io.BytesIO(tar)) as it:
         return {entry.name.partition("/")[2]: (entry.mode, it.extractfile(entry).read()) for entry in it.getmembers()}
+
+
+def differing(released, built):
+    """The names of the files that only one of two archives has, or each with another mode or text."""
+    return sorted(name for name in {*released, *built} if released.get(name) != built.get(name))
 
 
 def check(jobs):
@@ -139,7 +149,7 @@ def check(jobs):
         subprocess.run(["git", "-C", tree, "checkout", "-q", words["commit"]], check=True)
         subprocess.run([tree / "tools" / "build.py", "--jobs", str(jobs)], check=True)
         built = members(made(tree, tree / "crates" / "cti" / "out" / "cti", words["commit"])[1])
-    differ = sorted(name for name in {*released, *built} if released.get(name) != built.get(name))
+    differ = differing(released, built)
     for name in differ:
         print(f"{name} differs")
     print(f"{len(released)} files of {packed[0].name}, {len(differ)} differ from those built from {words['commit']}")

@@ -1,16 +1,16 @@
 #!/bin/sh
-# try_release.sh: how long it takes from a fresh clone to the first answer, on a system without the kit and SWI-Prolog.
+# try_release.sh: how long it takes from a fresh clone to the first answer, on a system without the kit.
 #
 #     tools/try_release.sh [RELEASE]
 #
 # The folder RELEASE, release/ where none is named, has the archive and its sum. It needs root, for a root folder in
-# which nothing of this machine is seen but /usr/bin with its libraries, and there no rt and no swipl.
+# which nothing of this machine is seen but /usr without /usr/local.
 set -eu
 cd "$(dirname "$0")/.."
 release=$(readlink -f "${1:-release}")
 room=$(mktemp -d)
 trap 'rm -rf "$room"' EXIT
-begun=$(date +%s.%N)
+begun=$(date +%s%N)
 git clone -q . "$room/cti"
 mkdir -p "$room/cti/release"
 [ "$release" = "$PWD/release" ] || cp "$release"/* "$room/cti/release/"
@@ -25,7 +25,7 @@ mount -t tmpfs none root/usr/local
 for it in bin lib lib64; do ln -s "usr/$it" "root/$it"; done
 touch root/dev/null
 mount --bind /dev/null root/dev/null
-exec env -i PATH=/usr/bin:/bin chroot root sh -eu -c '
+exec env -i PATH=/usr/bin:/bin "$(command -v chroot)" root sh -eu -c '
     cd /cti
     for it in rt rattle; do ! command -v $it || exit 1; done
     [ ! -e /opt ] && [ ! -e /root ]
@@ -33,4 +33,4 @@ exec env -i PATH=/usr/bin:/bin chroot root sh -eu -c '
     /tmp/somewhere/bin/cti infer examples/quicksort.pl | grep "^terminates"'
 INSIDE
 (cd "$room" && unshare -m sh ./inside)
-echo "from git clone to the answer: $(echo "$(date +%s.%N) - $begun" | bc | cut -c1-5) seconds"
+echo "from git clone to the answer: $(( ($(date +%s%N) - begun) / 1000000 )) milliseconds"
