@@ -35,8 +35,10 @@ LAST = top / "bin" / "last-build"
 EXAMPLE = ["infer", "../../examples/facts.pl"]
 # What a proof needs at most; the largest that was seen took 1.6 GB.
 PROOF_BYTES = 1_700_000_000
+# The kit gives a proof by itself no more of its jobs.
+MOST_JOBS = 4
 # What is called of the kit's library.
-CALLS = """Crate.below Crate.build_rlib Crate.is_built Crate.run Crate.stamp guarded help_of lock stop_on_links
+CALLS = """Crate.below Crate.build_rlib Crate.is_built Crate.run Crate.stamp fits guarded help_of lock stop_on_links
 stop_on_unread""".split()
 
 
@@ -163,13 +165,6 @@ def print_plan(plan, lanes):
     print(f"{lanes} at once: {clock(whole)}, {whole / bound:.2f} times the bound {clock(bound)}")
 
 
-def free_bytes():
-    for line in Path("/proc/meminfo").read_text().splitlines():
-        if line.startswith("MemAvailable:"):
-            return 1024 * int(line.split()[1])
-    return 0
-
-
 def kit_library():
     """The library of the command rt, or None where it has not what is called here."""
     page = subprocess.run(["rt", "doc"], stdout=subprocess.PIPE, text=True, check=True).stdout.strip()
@@ -204,8 +199,9 @@ class Build:
         signal.signal(signal.SIGINT, signal.SIG_DFL)
         for verb in ("build", "check"):
             rtlib.help_of(verb)
+        self.kit = rtlib
         self.crates = {it.name: it for it in [*top_crate.below(), top_crate]}
-        self.plan, self.lanes = plan, lanes
+        self.plan, self.lanes = plan, max(1, self.room(lanes))
         self.ended, self.spent, self.failed = queue.SimpleQueue(), {}, False
         top_crate.held = rtlib.lock(self.crates.values())
         for it in self.crates.values():
@@ -213,6 +209,10 @@ class Build:
             rtlib.stop_on_links(it.folder)
             os.makedirs(f"{it.folder}/out", exist_ok=True)
         self.pass_over_built()
+
+    def room(self, most):
+        """For how many proofs there are processors and memory now, at most so many."""
+        return next((count for count in range(most, 0, -1) if self.kit.fits(*[PROOF_BYTES] * count)), 0)
 
     def pass_over_built(self):
         """Counts the libraries as proved that an earlier run proved as they stand, each after those below it."""
@@ -244,10 +244,10 @@ class Build:
     def begin_next(self, now):
         """Begins the next proof, if there is one and room for it, with the processors that no other crate waits for."""
         name = None if self.failed else self.plan.next_crate()
-        free = free_bytes() // PROOF_BYTES
-        if not name or len(self.plan.running) >= self.lanes or (self.plan.running and free < 1):
+        spare = self.lanes - len(self.plan.running)
+        if not name or spare < 1 or (self.plan.running and not self.room(1)):
             return False
-        jobs = max(1, min(self.lanes - len(self.plan.running) - len(self.plan.ready()) + 1, free, 4))
+        jobs = max(1, self.room(min(spare - len(self.plan.ready()) + 1, MOST_JOBS)))
         self.plan.begin(name, now)
         threading.Thread(target=self.prove, args=(name, jobs), daemon=True).start()
         return True
