@@ -38,6 +38,7 @@ check:
 install: $(PROGRAM) install-files
 
 install-files:
+	@! $(PROGRAM) --version 2>&1 | grep -q 'not proved' || { echo '$(PROGRAM) is not proved: make bin/cti' >&2; exit 1; }
 	install -D -m 755 $(PROGRAM) $(DESTDIR)$(PREFIX)/bin/cti
 	install -D -m 644 man/cti.1 $(MANUAL)
 	install -D -m 644 completions/cti.bash $(BASH_COMPLETION)
