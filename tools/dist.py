@@ -55,6 +55,11 @@ def strip(program):
     subprocess.run(["llvm-strip", "--strip-all-gnu", program], executable=clang, check=True)
 
 
+def newest_glibc(program):
+    """The version of the C library that has all that a program calls of it."""
+    return ".".join(map(str, max(tuple(map(int, it.split(b"."))) for it in re.findall(rb"GLIBC_(\d+\.\d+)", program))))
+
+
 PROVED = """Every function of bin/cti was proved before it was built from that commit by that kit. `make check-release`,
 in a clone and with the kit, builds it anew and compares. share/cti/swi/, the converter that bin/cti-file runs, is not
 proved; it needs SWI-Prolog.
@@ -68,12 +73,12 @@ def fill(stage, tree, program, commit, version, what):
     install = ["make", "-s", "-C", tree, "install-files", f"PROGRAM={program}", f"DESTDIR={stage}", "PREFIX="]
     subprocess.run(install, check=True)
     strip(stage / "bin" / "cti")
-    digest = hashlib.sha256((stage / "bin" / "cti").read_bytes()).hexdigest()
-    note = f"""cti {version} for x86-64 Linux with glibc
+    text = (stage / "bin" / "cti").read_bytes()
+    note = f"""cti {version} for x86-64 Linux with glibc {newest_glibc(text)} or newer
 
 commit       {commit}
 kit          {said("rt", "version")}
-bin/cti      SHA-256 {digest}
+bin/cti      SHA-256 {hashlib.sha256(text).hexdigest()}
 
 {what}"""
     (stage / NOTE).write_text(note)

@@ -41,6 +41,9 @@ class ArchiveTest(unittest.TestCase):
         self.assertEqual(dist.members(dist.archive(stage, "cti-1-x86_64-linux", 1000)),
                          {"bin/cti": (0o755, b"program"), "share/doc/cti/RELEASE": (0o644, b"text")})
 
+    def test_newest_glibc(self):
+        self.assertEqual(dist.newest_glibc(b"..GLIBC_2.4\0GLIBC_2.34\0GLIBC_2.2.5\0.."), "2.34")
+
     def test_differing(self):
         old = {"bin/cti": (0o755, b"program"), "page": (0o644, b"text"), "gone": (0o644, b"")}
         new = {"bin/cti": (0o755, b"Program"), "page": (0o644, b"text"), "script": (0o755, b"")}
