@@ -144,7 +144,10 @@ def check(jobs):
         sys.exit("dist.py: release/ has no release, or more than one")
     subprocess.run(["sha256sum", "-c", f"{packed[0].name}.sha256"], cwd=top / "release", check=True)
     released = members(lzma.decompress(packed[0].read_bytes()))
-    note = released[NOTE][1].decode()
+    # The note is by the dist.py of its time. What it says of the program is looked at here.
+    note = released.pop(NOTE)[1].decode()
+    if hashlib.sha256(released["bin/cti"][1]).hexdigest() not in note:
+        sys.exit(f"dist.py: {NOTE} names another SHA-256 than that of bin/cti")
     words = {name: re.search(rf"(?m)^{name} +(\S.*)$", note)[1] for name in ("commit", "kit")}
     if said("rt", "version") != words["kit"]:
         sys.exit(f"dist.py: the release was made by {words['kit']}, and this kit is {said('rt', 'version')}")
@@ -154,6 +157,7 @@ def check(jobs):
         subprocess.run(["git", "-C", tree, "checkout", "-q", words["commit"]], check=True)
         subprocess.run([tree / "tools" / "build.py", "--jobs", str(jobs)], check=True)
         built = members(made(tree, tree / "crates" / "cti" / "out" / "cti", words["commit"])[1])
+        del built[NOTE]
     differ = differing(released, built)
     for name in differ:
         print(f"{name} differs")
