@@ -16,10 +16,12 @@ const SWITCH: &str = "CTI_NO_SELF_CHECK";
 
 /// The names under which `check` finds the two texts.
 const PROGRAM: &str = "program.pl";
+
 const CERTIFICATE: &str = "certificate";
 
 /// What is said of a certificate that is not accepted.
-pub const REJECTED: &[u8] = b"cti: error: `cti check` does not accept this certificate: do not rely on it
+pub const REJECTED: &[u8] =
+    b"cti: error: `cti check` does not accept this certificate: do not rely on it
 cti: this program or this machine does not work as it was proved to; please report it
 ";
 
@@ -30,7 +32,7 @@ pub const TOO_LONG: &[u8] =
 /// Whether a second look is wanted.
 pub fn is_wanted(rt: &HostRuntime) -> bool {
     match env::var(rt, SWITCH) {
-        Ok(value) => value != "1",
+        Ok(value) => value.as_str() != "1",
         Err(_) => true,
     }
 }
@@ -39,7 +41,10 @@ pub fn is_wanted(rt: &HostRuntime) -> bool {
 fn store(alloc: Global, program: &[u8], certificate: &[u8]) -> Result<MemFiles, AllocError> {
     let mut files = BTreeMap::new(alloc);
     for (name, text) in [(PROGRAM, program), (CERTIFICATE, certificate)] {
-        files.insert(String::from_str(alloc, name)?, Vec::from_slice(alloc, text)?)?;
+        files.insert(
+            String::from_str(alloc, name)?,
+            Vec::from_slice(alloc, text)?,
+        )?;
     }
     Ok(MemFiles {
         files,
