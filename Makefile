@@ -1,8 +1,12 @@
-# `make` proves the crates, builds bin/cti and shows it at work; `make JOBS=2` proves on two processors; `make check`
-# passes every proof, wrong edit and test; `make install` copies the program, its manual page, the completions of three
-# shells and the converter of real files, and `make uninstall` removes them.
+# `make install-release` installs the proved program of the last version, which lies in release/; it needs no toolchain.
+# `make quick` makes bin/cti-unproved, the program before any proof. `make` proves the crates, builds bin/cti and shows
+# it at work; `make JOBS=2` proves on two processors; `make check` passes every proof, wrong edit, test and comparison;
+# `make install` copies the program, its manual page, the completions of three shells and the converter of real files,
+# and `make uninstall` removes what was installed. `make dist` makes the release of this version, and
+# `make check-release` builds it anew and compares.
 PREFIX ?= /usr/local
 JOBS ?= $(shell nproc)
+PROGRAM ?= bin/cti
 SHARE = $(DESTDIR)$(PREFIX)/share
 MANUAL = $(SHARE)/man/man1/cti.1
 BASH_COMPLETION = $(SHARE)/bash-completion/completions/cti
@@ -10,39 +14,62 @@ ZSH_COMPLETION = $(SHARE)/zsh/site-functions/_cti
 FISH_COMPLETION = $(SHARE)/fish/vendor_completions.d/cti.fish
 FILE_MANUAL = $(SHARE)/man/man1/cti-file.1
 CONVERTER = $(SHARE)/cti/swi
-CONVERTER_FILES = analyses.pl answer_text.pl asking.pl call_drawing.pl components.pl cti.pl cti_file.pl cti_page.pl \
-  cti_report.pl doubtful_libraries.pl file_doubts.pl note_reading.pl patterns.pl places.pl pure_program.pl \
-  real_builtins.pl real_goals.pl real_modules.pl real_source.pl reasons.pl requirements.pl source_text.pl trust.pl
+# The modules of swi/, without their tests and what describes the pack.
+CONVERTER_FILES = $(filter-out swi/pack.pl swi/test_%, $(wildcard swi/*.pl))
+LICENCES = LICENSE-MIT LICENSE-APACHE
+SOURCES := $(shell find crates -name '*.rt' -o -name '*.antt' | grep -v /out/) crates.txt
+RELEASE = $(wildcard release/cti-*-x86_64-linux.tar.xz)
 
-bin/cti: $(shell find crates -name '*.rt' -o -name '*.antt' | grep -v /out/) crates.txt
-	@tools/build.py $(JOBS)
-	cd crates/cti && rt run -- infer ../../examples/facts.pl
+bin/cti: $(SOURCES)
+	@tools/build.py --jobs $(JOBS)
 	mkdir -p bin
 	cp crates/cti/out/cti bin/cti
 
-.PHONY: check install uninstall clean
-check:
-	rt ci
+.PHONY: quick check install install-files install-release uninstall dist check-release clean
+quick: bin/cti-unproved
 
-install: bin/cti
-	install -D -m 755 bin/cti $(DESTDIR)$(PREFIX)/bin/cti
+bin/cti-unproved: $(SOURCES) tools/quick.py
+	@tools/quick.py
+	@tools/run_cases.py bin/cti-unproved
+
+check:
+	@tools/check.sh
+
+install: $(PROGRAM) install-files
+
+install-files:
+	@! $(PROGRAM) --version 2>&1 | grep -q 'not proved' || { echo '$(PROGRAM) is not proved: make bin/cti' >&2; exit 1; }
+	install -D -m 755 $(PROGRAM) $(DESTDIR)$(PREFIX)/bin/cti
 	install -D -m 644 man/cti.1 $(MANUAL)
 	install -D -m 644 completions/cti.bash $(BASH_COMPLETION)
 	install -D -m 644 completions/_cti $(ZSH_COMPLETION)
 	install -D -m 644 completions/cti.fish $(FISH_COMPLETION)
-	for it in $(CONVERTER_FILES); do install -D -m 644 swi/$$it $(CONVERTER)/$$it || exit 1; done
+	for it in $(CONVERTER_FILES); do install -D -m 644 $$it $(CONVERTER)/$${it#swi/} || exit 1; done
 	install -D -m 755 swi/cti-file $(CONVERTER)/cti-file
-	printf '#!/bin/sh\nexec $(PREFIX)/share/cti/swi/cti-file "$$@"\n' > $(DESTDIR)$(PREFIX)/bin/cti-file
-	chmod 755 $(DESTDIR)$(PREFIX)/bin/cti-file
+	install -D -m 755 tools/installed-cti-file $(DESTDIR)$(PREFIX)/bin/cti-file
 	install -D -m 755 swi/cti-hold $(CONVERTER)/cti-hold
-	printf '#!/bin/sh\nexec $(PREFIX)/share/cti/swi/cti-hold "$$@"\n' > $(DESTDIR)$(PREFIX)/bin/cti-hold
+	sed s/cti-file/cti-hold/g tools/installed-cti-file > $(DESTDIR)$(PREFIX)/bin/cti-hold
 	chmod 755 $(DESTDIR)$(PREFIX)/bin/cti-hold
 	install -D -m 644 man/cti-file.1 $(FILE_MANUAL)
+	for it in $(LICENCES); do install -D -m 644 $$it $(SHARE)/doc/cti/$$it || exit 1; done
+
+# It needs sha256sum, tar and xz alone.
+install-release:
+	@test "$(words $(RELEASE))" = 1 || { echo 'release/ has no release, or more than one' >&2; exit 1; }
+	cd release && sha256sum -c $(notdir $(RELEASE)).sha256
+	mkdir -p $(DESTDIR)$(PREFIX)
+	xz -dc $(RELEASE) | tar -xf - -C $(DESTDIR)$(PREFIX) --strip-components=1 --no-same-owner
 
 uninstall:
 	rm -f $(DESTDIR)$(PREFIX)/bin/cti $(MANUAL) $(BASH_COMPLETION) $(ZSH_COMPLETION) $(FISH_COMPLETION)
 	rm -f $(DESTDIR)$(PREFIX)/bin/cti-file $(DESTDIR)$(PREFIX)/bin/cti-hold $(FILE_MANUAL)
-	rm -rf $(SHARE)/cti
+	rm -rf $(SHARE)/cti $(SHARE)/doc/cti
+
+dist: bin/cti
+	@tools/dist.py
+
+check-release:
+	@tools/dist.py --check --jobs $(JOBS)
 
 clean:
 	rm -rf bin crates/*/out

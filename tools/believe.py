@@ -3,7 +3,10 @@
 
 usage: tools/believe.py            a count of lines for each rank, and the files of each rank
        tools/believe.py --names    each definition by itself
+       tools/believe.py --whole    a count of lines for each promise by itself: all that its words use, procedures among them
        tools/believe.py --mark     writes each file's rank into its first line
+       tools/believe.py --write    writes the counts of lines into the table of docs/definitions.md
+       tools/believe.py --check    says which counts of that page, and which first lines, are old
        tools/believe.py --text RANK [RANK ..]
                                    the definitions of these ranks (yes, modes, reading, command, lists, loop, sessions, procedures), each after
                                    those that it uses, and before them the types of the code that they name; with `yes` the worked examples of
@@ -35,6 +38,20 @@ PROCEDURES = {
     "termination_model": {"BlownSupports", "SupportSystem", "ChainLicences", "Replacing", "ShortSystems"},
     "sparse_rows": None,
     "fourier": None,
+}
+
+# The promises by themselves, each with where its words begin. Nothing is left out of what these use.
+PROMISES = {
+    "a Yes of `check` (`ModesAreBounded`)": YES,
+    "the bound of `lex` (`ModesAreBounded` of `lex_checker`)": [("lex_checker", "Bounding", ["ModesAreBounded"])],
+    "`infer` (`IsInferred`)": [("cti_top", "Inferred", ["IsInferred"])],
+    "`check` (`IsCheckOf`)": [("cti_top", "Checks", ["IsCheckOf"])],
+    "`lex` (`IsLexed`)": [("cti_top", "Lexed", ["IsLexed"])],
+    "a printed loop (`GoesOn`)": [("loop_finder", "Loop", ["GoesOn"])],
+    "`loop` (`IsLoopSearchOf`)": [("cti_top", "Loops", ["IsLoopSearchOf"])],
+    "`run` (`IsTextOfQuery`)": [("cti_top", "Runs", ["IsTextOfQuery"])],
+    "`session` (`IsSessionOf`)": [("cti_top", "Sessions", ["IsSessionOf"])],
+    "`command`, with words and files (`Outcome`)": [("cti_top", "Outcome", ["Outcome"])],
 }
 
 HEAD = re.compile(r"^(?:(?:abbrev|unfoldable) )?(?:pub )?(?:(?:(?:abbrev|unfoldable) )?(record|data) ([^\s:(){}]+)|([^\s:(){}]+) :)(?=\s|$)")
@@ -155,14 +172,56 @@ MARKS = {
 }
 
 
-def mark(specs, ranks):
-    """Writes the first rank that has a definition of a file into the file's first line."""
+def marked(specs, ranks):
+    """Each file with its text under a first line that says the first rank which has a definition of the file."""
     for at, path in specs.paths.items():
         rank = next((title for title, found in ranks if any(key == at for key, _ in found)), "private")
         lines = path.read_text().split("\n")
         while lines[0] in MARKS.values():
             del lines[0]
-        path.write_text("\n".join([MARKS[rank]] + lines))
+        yield path, "\n".join([MARKS[rank]] + lines)
+
+
+PAGE = top / "docs" / "definitions.md"
+HEADLINE = re.compile(r"(?<=the first two ranks: )[\d,]+(?= lines)")
+
+
+def whole_counts(specs):
+    """The lines of all that each promise uses, with their comments and without."""
+    for title, starts in PROMISES.items():
+        lines = [line for key, name in specs.closure(starts) for line in specs.files[key][name]]
+        yield title, len(lines), sum(not line.lstrip().startswith("--") for line in lines)
+
+
+def counted_page(specs, ranks):
+    """docs/definitions.md with the counts of today in its tables, and in the sentence on the first two ranks."""
+    counts = {title: sum(len(specs.files[key][name]) for key, name in found) for title, found in ranks}
+    page = PAGE.read_text()
+    for title, count in counts.items():
+        row = re.compile(rf"(?m)^(\| \*{title}\* \| .*\| )[\d,]+( \|)$")
+        page, rows = row.subn(rf"\g<1>{count:,}\g<2>", page)
+        if rows != 1:
+            sys.exit(f"docs/definitions.md has {rows} rows for the rank {title}, and not one")
+    for title, lines, plain in whole_counts(specs):
+        row = re.compile(rf"(?m)^(\| {re.escape(title)} \| )[\d,]+ \| [\d,]+( \|)$")
+        page, rows = row.subn(rf"\g<1>{lines:,} | {plain:,}\g<2>", page)
+        if rows != 1:
+            sys.exit(f"docs/definitions.md has {rows} rows for {title}, and not one")
+    page, sentences = HEADLINE.subn(f"{counts['for a Yes'] + counts['for the modes']:,}", page)
+    if sentences != 1:
+        sys.exit("docs/definitions.md does not say how many lines the first two ranks have")
+    return page
+
+
+def check(specs, ranks):
+    """The faults that --mark and --write mend; the exit status."""
+    faults = [f"{path.relative_to(top)}: its first line says another rank (tools/believe.py --mark)"
+              for path, text in marked(specs, ranks) if path.read_text() != text]
+    for old, new in zip(PAGE.read_text().split("\n"), counted_page(specs, ranks).split("\n")):
+        if old != new:
+            faults.append(f"docs/definitions.md: its counts are old (tools/believe.py --write): {new[:40]}..{new[-12:]}")
+    print("\n".join(faults) or "docs/definitions.md counts what has to be believed")
+    return bool(faults)
 
 
 # The words of the command line for the ranks, and the worked examples of what a Yes rests on.
@@ -282,8 +341,18 @@ def main():
     everything = {(key, name) for key, names in specs.files.items() for name in names}
     ranks.append(("private", everything - known - command - procedures - lists - loop - sessions))
     if "--mark" in sys.argv:
-        mark(specs, ranks)
+        for path, text in marked(specs, ranks):
+            path.write_text(text)
         return
+    if "--whole" in sys.argv:
+        for title, lines, plain in whole_counts(specs):
+            print(f"{title}: {lines} lines, {plain} without comments")
+        return
+    if "--write" in sys.argv:
+        PAGE.write_text(counted_page(specs, ranks))
+        return
+    if "--check" in sys.argv:
+        sys.exit(check(specs, ranks))
     if "--text" in sys.argv:
         words = sys.argv[sys.argv.index("--text") + 1:]
         if not words or not set(words) <= set(WORDS):

@@ -1,7 +1,8 @@
 #!/usr/bin/env python3
 """How many minutes of one processor the prover takes for each crate while a command runs. So docs/gate.md was measured.
 
-Usage: tools/gate_minutes.py COMMAND..     (as tools/gate_minutes.py .ci/run)
+Usage: tools/gate_minutes.py COMMAND..            (as tools/gate_minutes.py .ci/run)
+       tools/gate_minutes.py --write COMMAND..    writes the minutes of the proofs into tools/crate_minutes.txt, too
 
 Each process of the prover on this machine is looked at twice a second, whoever started it, and what it takes after the last look is not
 counted. So let nothing else be proved meanwhile. An edit that has to be refused is known by the folder in which it is tried. Minutes are
@@ -15,6 +16,8 @@ import sys
 import time
 from pathlib import Path
 
+top = Path(__file__).resolve().parent.parent
+TABLE = top / "tools" / "crate_minutes.txt"
 TICKS = os.sysconf("SC_CLK_TCK")
 CRATE = re.compile(rb"--crate-name\0([^\0]+)")
 EDIT = re.compile(r"/rt-edit-[0-9]+-")
@@ -47,11 +50,27 @@ def look(seen):
                 seen[known] = crate, is_edit, seconds
 
 
+def write(minutes):
+    """Puts the minutes of crates in the place of those that tools/crate_minutes.txt has, in its scale: those that it has
+    of the same crates together stay what they are. A crate that is no longer there goes."""
+    lines = TABLE.read_text().splitlines()
+    head, rows = [line for line in lines if line.startswith("#")], [line for line in lines if not line.startswith("#")]
+    found = {name: float(number) for name, number in map(str.split, rows)}
+    both = [name for name in minutes if name in found]
+    scale = sum(found[name] for name in both) / sum(minutes[name] for name in both) if both else 1.0
+    found.update({name: scale * number for name, number in minutes.items()})
+    crates = [line.split(":")[0].strip() for line in (top / "crates.txt").read_text().splitlines() if ":" in line]
+    TABLE.write_text("\n".join([*head, *(f"{name} {found[name]:.2f}" for name in crates if name in found)]) + "\n")
+
+
 def main():
-    if len(sys.argv) < 2:
+    words = sys.argv[1:]
+    writes = words[:1] == ["--write"]
+    words = words[writes:]
+    if not words:
         sys.exit(__doc__.split("\n\n")[1])
     seen = {}
-    run = subprocess.Popen(sys.argv[1:])
+    run = subprocess.Popen(words)
     while run.poll() is None:
         look(seen)
         time.sleep(0.5)
@@ -62,6 +81,8 @@ def main():
         print(f"{title}: {sum(minutes.values()):.1f} minutes")
         for crate, count in minutes.most_common():
             print(f"  {count:6.2f} {crate}")
+    if writes:
+        write(proofs)
     sys.exit(run.returncode)
 
 

@@ -60,9 +60,7 @@ impl Memo {
     pub(crate) fn new(alloc: Global) -> Result<Memo, AllocError>
         ensures { IfOk result (λ memo. memo.answers.entries ≡ []) }
     {
-        let Some(most) = NonZeroUsize::new(ANSWERS) else {
-            return Err(AllocError);
-        };
+        let most = NonZeroUsize::new(ANSWERS).unwrap_or(NonZeroUsize::MIN);
         Ok(Memo {
             answers: LruCache::sparse(alloc, most)?,
         })

@@ -169,6 +169,7 @@ impl Book {
             fails: Vec::new(alloc),
             calls: 0,
             faults: 0,
+            refused: 0,
         };
         let status = command(alloc, &words, &mut self.store, &mut sink);
         Ok((status, sink.taken))

@@ -79,6 +79,7 @@ fn definite_rules<'a>(
     clauses: &'a [ReadClause],
 ) -> Result<Vec<Rule<'a>>, AllocError>
     requires fit { AllByRecursion (IsFit (length names.now)) (map clause_of clauses.now) }
+    requires definite { AreDefinite names.now (map clause_of clauses.now) }
     ensures rules { IfOk result
         (λ v. map rule_of v.items ≡ rules_of names.now (map clause_of clauses.now)) }
     ensures fit { IfOk result (λ v. AllByRecursion (RuleIsFit (length names.now)) v.items) }
@@ -88,8 +89,8 @@ fn definite_rules<'a>(
     'clauses: for clause in clauses {
         match definite_rule(alloc, names, clause) {
             Ok(rule) => rules.push(rule)?,
-            // They are definite, so only memory can have run out.
-            Err(_) => return Err(AllocError),
+            Err(NormFault::Memory) => return Err(AllocError),
+            Err(NormFault::Fault { .. }) => unreachable!(),
         }
     }
     Ok(rules)

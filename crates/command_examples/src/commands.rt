@@ -37,6 +37,7 @@ pub(crate) fn sink(alloc: Global, chunk: usize, fails: &[u64]) -> Result<MemSink
         fails: Vec::from_slice(alloc, fails)?,
         calls: 0,
         faults: 0,
+        refused: 0,
     })
 }
 
@@ -306,27 +307,29 @@ fn a_store_that_keeps(rt: HostRuntime) -> Result<(), Fail> {
     Ok(())
 }
 
-/// Whether a writer takes all that it is given, and the sink keeps the first 64 bytes of it.
-fn is_head_kept(alloc: Global) -> bool {
-    let mut sink = RealSink::new(Vec::new(alloc));
+/// Whether a writer takes all that it is given, and the sink keeps it while it is at most 64 bytes, and then the first 64.
+fn is_text_kept(alloc: Global) -> bool {
+    let mut sink = RealSink::new(alloc, Vec::new(alloc), 64);
     sink.write(b"p(a).") == Ok(5)
         && sink.write(b"") == Ok(0)
-        && sink.inner.as_slice() == b"p(a).".as_slice()
-        && sink.head() == b"p(a).".as_slice()
+        && sink.write(b"\n") == Ok(1)
+        && sink.inner.as_slice() == b"p(a).\n".as_slice()
+        && sink.text() == b"p(a).\n".as_slice()
         && sink.write(&[b'x'; 100]) == Ok(100)
         && sink.head().len() == 64
-        && sink.taken() == 105
+        && sink.taken() == 106
+        && sink.text().is_empty()
 }
 
 /// Whether a writer with room for one byte takes one, and then has a fault.
-fn is_short_writer_faulty() -> bool {
+fn is_short_writer_faulty(alloc: Global) -> bool {
     let mut buffer = [0u8; 1];
-    let mut short = RealSink::new(buffer.as_mut_slice());
+    let mut short = RealSink::new(alloc, buffer.as_mut_slice(), 64);
     short.write(b"pq") == Ok(1) && short.write(b"q") == Err(SinkFault::Failed) && short.faults == 1
 }
 
 #[test]
 fn a_real_writer(rt: HostRuntime) {
-    assert!(rt; is_head_kept(rt.alloc()));
-    assert!(rt; is_short_writer_faulty());
+    assert!(rt; is_text_kept(rt.alloc()));
+    assert!(rt; is_short_writer_faulty(rt.alloc()));
 }

@@ -138,10 +138,11 @@ impl Write for Interrupted {
 
 /// Whether a write that is interrupted is tried again, which is no fault.
 fn is_tried_again(alloc: Global) -> bool {
-    let mut sink = RealSink::new(Interrupted {
+    let writer = Interrupted {
         bytes: Vec::new(alloc),
         is_called: false,
-    });
+    };
+    let mut sink = RealSink::new(alloc, writer, 64);
     sink.write(b"p(a).") == Ok(5)
         && sink.faults == 0
         && sink.inner.bytes.as_slice() == b"p(a).".as_slice()

@@ -2,17 +2,20 @@
 //! with the status's number.
 #![tactic(auto)]
 
-mod keeping;
+mod self_check;
 
 use cti_top::{Files, KeptFiles, RealFiles, RealSink, Status, command};
-use keeping::Keeping;
 use messages::{Ending, explain};
 use mode_notes::call_notes;
+use self_check::{MOST_BYTES, REJECTED, TOO_LONG, is_rejected, is_wanted};
 use std::alloc::{AllocError, Global};
 use std::io::Write;
 use std::process::ExitCode;
 use std::{env, io};
 use warnings::warn;
+
+/// How many bytes of the output are read for a message: more than the longest line of a refusal.
+const LONGEST_LINE: usize = 64;
 
 /// The words after the program's name, and whether the system gives all of them as text. If it does not, there are none.
 fn words(rt: &HostRuntime, alloc: Global) -> Result<(Vec<String>, bool), AllocError> {
@@ -37,12 +40,12 @@ fn tell<'a, F: Files + Drop, W: Write + Drop>(
     words: &'a [&'a str],
     are_text: bool,
     files: &'a KeptFiles<F>,
-    out: &'a RealSink<Keeping<W>>,
+    out: &'a RealSink<W>,
 ) -> Result<(), AllocError> {
     let ending = Ending {
         status: status.number(),
         words: are_text.then_some(words),
-        output: out.head(),
+        output: out.head().get(..LONGEST_LINE).unwrap_or(out.head()),
         written: out.taken(),
         program: files.text(0),
         certificate: files.text(1),
@@ -51,8 +54,31 @@ fn tell<'a, F: Files + Drop, W: Write + Drop>(
     let _ = rt.stderr().write_all(&message);
     let warnings = warn(rt.alloc(), ending)?;
     let _ = rt.stderr().write_all(&warnings);
-    let notes = call_notes(rt.alloc(), ending, out.inner.text())?;
+    let notes = call_notes(rt.alloc(), ending, out.text())?;
     let _ = rt.stderr().write_all(&notes);
+    Ok(())
+}
+
+/// Looks a second time at a certificate that was written, and says on standard error if `check` does not accept it, or
+/// would not read it.
+fn look_again<F: Files + Drop, W: Write + Drop>(
+    rt: &HostRuntime,
+    files: &KeptFiles<F>,
+    out: &RealSink<W>,
+) -> Result<(), AllocError> {
+    if out.taken() > MOST_BYTES as u64 {
+        let _ = rt.stderr().write_all(TOO_LONG);
+        return Ok(());
+    }
+    let program = files.text(0);
+    let certificate = out.text();
+    // Without both texts there is nothing to look at.
+    if program.is_empty() || certificate.is_empty() || !is_wanted(rt) {
+        return Ok(());
+    }
+    if is_rejected(rt.alloc(), program, certificate)? {
+        let _ = rt.stderr().write_all(REJECTED);
+    }
     Ok(())
 }
 
@@ -68,11 +94,17 @@ fn run(rt: &HostRuntime, alloc: Global) -> Result<Status, AllocError> {
         faults: 0,
     };
     let mut files = KeptFiles::new(alloc, inner);
-    let keeps = matches!(texts.first().copied(), Some("infer" | "lex"));
-    let mut out = RealSink::new(Keeping::new(alloc, rt.stdout(), keeps));
+    let kept = match texts.first().copied() {
+        Some("infer" | "lex") => MOST_BYTES,
+        _ => LONGEST_LINE,
+    };
+    let mut out = RealSink::new(alloc, rt.stdout(), kept);
     let status = command(alloc, &texts, &mut files, &mut out);
-    // The answer is written, and stands, if there is no memory for the message.
+    // The answer is written, and stands, if there is no memory for the message or for a second look.
     let _ = tell(rt, status, &texts, are_text, &files, &out);
+    if status == Status::Done && texts.first().copied() == Some("infer") {
+        let _ = look_again(rt, &files, &out);
+    }
     Ok(status)
 }
 

@@ -12,3 +12,4 @@ pub mod Texts
 pub mod Unifier
 pub mod UnifyLaws
 pub mod Wider
+pub mod WorldLaws

@@ -8,10 +8,9 @@
 -- An atom whose evaluated arguments have values is wide where a subterm of one of them has a value that does not fit.
 --
 -- To believe: all of this file.
-use Rattle.std.specs.Prelude.{ℕ, ◌==◌, ◌&&◌, ◌||◌, ℤ, ◌+ℤ◌, ◌-ℤ◌, ◌*ℤ◌, neg_ℤ, int_lt, Bool, true, false, not, is_some, if◌then◌else◌, List, [], ◌∷◌, Option, None, Some, option_and_then}
+use Rattle.std.specs.Prelude.{ℕ, ◌^◌, ◌==◌, ◌&&◌, ◌||◌, ℤ, ◌+ℤ◌, ◌-ℤ◌, ◌*ℤ◌, neg_ℤ, int_lt, nat_lt, unsigned_abs, Bool, true, false, not, is_some, if◌then◌else◌, List, [], ◌∷◌, Option, None, Some, option_and_then}
 use Rattle.std.specs.List.{list_all, list_any}
 use Rattle.std.specs.Ordering.{int_eq}
-use Rattle.exact128.specs.Fits.{fits}
 use Rattle.cti_terms.specs.Tree.{Tree, Trees, Variable, Integer, Compound, End, More}
 use Rattle.cti_terms.specs.Unify.{Binding}
 use Rattle.cti_terms.specs.UnifyFunction.{unify}
@@ -56,6 +55,10 @@ abbrev mutual
   pub all_values : Option Arith → Trees → Option (List ℤ)
   all_values o End = Some []
   all_values o (More t ts) = both (value o t) (all_values o ts)
+
+-- whether a number is of absolute value at most 2^127 - 1
+abbrev pub fits : ℤ → Bool
+fits z = nat_lt (unsigned_abs z) (2 ^ 127)
 
 -- whether there is a value, and it does not fit
 abbrev pub is_too_wide : Option ℤ → Bool

@@ -16,3 +16,4 @@ pub mod Spell
 pub mod Tree
 pub mod Unify
 pub mod UnifyFunction
+pub mod Worlds

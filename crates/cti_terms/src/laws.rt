@@ -15,6 +15,8 @@ ghost use Rattle.cti_terms.specs.Listing.{Listing, IsFact, IsProgram, HasNoClaus
 ghost use Rattle.cti_terms.specs.declared.atom_list.Atom.{Atom};
 ghost use Rattle.cti_terms.specs.declared.builtins.Builtin.{Builtin};
 ghost use Rattle.cti_terms.specs.declared.derivation.Goal.{Goal};
+ghost use Rattle.std.specs.Prelude.{Bool, false};
+ghost use Rattle.cti_terms.specs.Worlds.{World, resolve_in, IsDerivationAfter, BoundedIn};
 
 /// Unification is a function, and what it gives unifies.
 pub fn unification_is_a_function()
@@ -77,4 +79,12 @@ pub fn derivations_lift()
         → IsMoreGeneral b a → IsGoalOf p (query b m) → left_after p (query a n) ks ≡ Some h
         → (l : Goal) × (left_after p (query b m) ks ≡ Some l)
         × (s : ℕ → Tree) × (h.atoms ≡ map (over (instance s)) l.atoms) }
+{}
+
+/// Where no predicate is open, steps, derivations and bounded goals in any world are those of the program.
+pub fn worlds_without_open_predicates()
+    ensures steps { (p : Listing) (w : World) (past : List ℕ) (g : Goal) (k : ℕ) → resolve_in p (λ _. false) w past g k ≡ resolve p g k }
+    ensures derivations { (p : Listing) (w : World) (past : List ℕ) (g : Goal) (ks : List ℕ)
+        → IsDerivationAfter p (λ _. false) w past g ks ↔ IsDerivation p g ks }
+    ensures bounded { (p : Listing) (w : World) (g : Goal) → BoundedIn p (λ _. false) w g ↔ Bounded p g }
 {}

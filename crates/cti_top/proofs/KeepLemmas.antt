@@ -20,6 +20,28 @@ keeps_then a b c f g h first second = record {
   counts = λ name. let l = first.counts name in let m = second.counts name in omega (arith, l, m);
 }
 
+-- a count that is always 0 does not rise
+pub never_rises : Rose 0 0 → ⊥
+never_rises rose = omega (arith, rose)
+
+-- nor does that of a file that the words name
+no_origin_rises : (o : Origin) → OriginRose o (λ name. 0) (λ name. 0) → ⊥
+no_origin_rises (file name) rose = never_rises rose
+no_origin_rises (generated n) rose = rose
+
+no_certificate_rises : (ask : Ask) → CertificateRose ask (λ name. 0) (λ name. 0) → ⊥
+no_certificate_rises (infer f norm) rose = rose
+no_certificate_rises (check f certificate) rose = never_rises rose
+no_certificate_rises (run f query steps) rose = rose
+no_certificate_rises (gen n) rose = rose
+no_certificate_rises (lex f) rose = rose
+no_certificate_rises (loop f query depth) rose = rose
+no_certificate_rises (session f) rose = rose
+
+pub no_file_rises : (told : Map) (ask : Ask) → FileRose told ask (λ name. 0) (λ name. 0) → ⊥
+no_file_rises told ask (inl rose) = no_origin_rises (origin ask) rose
+no_file_rises told ask (inr (bytes, known, tells, is, rose)) = no_certificate_rises ask rose
+
 -- a certificate's count that rose after calls that did not change it
 pub certificate_rose : (ask : Ask) (before between after : List ℕ → ℕ) → ((name : List ℕ) → between name ≡ before name) → CertificateRose ask between after → CertificateRose ask before after
 certificate_rose (infer f norm) before between after calm rose = rose

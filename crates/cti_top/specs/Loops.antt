@@ -5,8 +5,9 @@
 -- is the first of the first 100,000 that is a loop, in its two parts; or that none is, and how many there are; or that
 -- none of the first 100,000 is, and there are more.
 --
--- Where a loop is printed, the query has derivations of every length, and is not bounded. That follows from the loop.
--- It is said besides, so that who wants to know that a query does not end has nothing to read but what derivations are.
+-- Where a loop is printed, its first part and then its second, however often, is a derivation of the query, which so is
+-- not bounded. That follows from the loop. It is said besides, so that who wants to know that a query does not end has
+-- nothing to read but what derivations are.
 --
 -- To believe: all of this file, over the goal of a query, `clause_nodes`, `GoesOn`, `IsFirstLoop`, `IsWithoutLoop` and
 -- `IsStopped` of loop_finder, `positions_text` of certificate, and `Bounded` of cti_terms.
@@ -35,7 +36,7 @@ stopped_line = codes "stopped(100000).\n"
 
 -- the text is what is printed for a goal of a program and derivations of at most d steps, with this status
 pub data IsTextOfLoop (p : Listing) (g : Goal) (d : ℕ) (status : Status) (text : List ℕ) : Type 0 where
-  found : (before cycle : List ℕ) → IsFirstLoop p g 100000 (clause_nodes p d g) before cycle → GoesOn p g → ¬ Bounded p g → status ≡ Done
+  found : (before cycle : List ℕ) → IsFirstLoop p g 100000 (clause_nodes p d g) before cycle → GoesOn p g before cycle → ¬ Bounded p g → status ≡ Done
       → text ≡ loop_line before cycle → IsTextOfLoop p g d status text
   none : (n : ℕ) → IsWithoutLoop p g 100000 (clause_nodes p d g) n → status ≡ No → text ≡ no_loop_line n → IsTextOfLoop p g d status text
   more : IsStopped p g 100000 (clause_nodes p d g) → status ≡ Stopped → text ≡ stopped_line → IsTextOfLoop p g d status text

@@ -18,6 +18,7 @@ mod running;
 mod session;
 mod source;
 mod status;
+mod sure;
 mod top_call;
 mod verdicts;
 
@@ -27,6 +28,7 @@ pub use outside::{
 };
 pub use refusal::{Subject, refusal_text};
 pub use status::Status;
+pub use sure::sure_command;
 pub use term_text::run_text;
 pub use top_call::command;
 pub use verdicts::verdict_text;

@@ -16,11 +16,12 @@ use Rattle.linear_rows.proofs.Founds.{found_holds}
 use Rattle.linear_rows.proofs.Refutes.{start_carries, left_refutes, refuted_refutes}
 use Rattle.sparse_rows.specs.Adding.{AllFit, AllLong}
 use Rattle.fourier.specs.History.{history_of, values_back, AllLongerThan, StepsSay}
-use Rattle.fourier.specs.Solves.{Spells, SpellsUnless, Decides, RefutesInFit, whole_back}
+use Rattle.fourier.specs.Solves.{Spells, SpellsUnless, whole_back}
+use Rattle.linear_rows.specs.Decides.{Decides, RefutesInFit}
 use Rattle.fourier.specs.declared.fault.ElimFault.{ElimFault}
 use Rattle.fourier.specs.declared.fault.ElimFault.TheVariants.{Blown as BlownFault, Memory}
-use Rattle.fourier.specs.declared.solved.Solved.{Solved}
-use Rattle.fourier.specs.declared.solved.Solved.TheVariants.{Point as PointFound, Refuted as RefutedBy}
+use Rattle.linear_rows.specs.declared.solved.Solved.{Solved}
+use Rattle.linear_rows.specs.declared.solved.Solved.TheVariants.{Point as PointFound, Refuted as RefutedBy}
 use Rattle.sparse_rows.proofs.Alls.{rows_fit}
 use Rattle.fourier.proofs.CheckLemmas.{all_columns}
 use Rattle.fourier.proofs.Stays.{fit_stays, long_stays}

@@ -2,17 +2,14 @@
 -- What solving answers, in the words of linear_rows.
 use Rattle.std.specs.Prelude.{◌≡◌, ℕ, ℤ, pos, Bool, true, false, List, Option, None, Some, Result, Ok, Err, length}
 use Rattle.exact128.specs.Fractions.{then_do}
-use Rattle.linear_rows.specs.Rows.{IsPoint}
-use Rattle.linear_rows.specs.Proves.{Refutes, AllColumnsFit}
-use Rattle.linear_rows.specs.Showing.{bottom_row}
 use Rattle.linear_rows.specs.Step.{columns}
 use Rattle.linear_rows.specs.Solving.{Solution, common_of, made_whole}
 use Rattle.linear_rows.specs.Solving.Solution.{Blown, Found, Refuted}
 use Rattle.fourier.specs.History.{values_back}
 use Rattle.fourier.specs.declared.fault.ElimFault.{ElimFault}
 use Rattle.fourier.specs.declared.fault.ElimFault.TheVariants.{Blown as BlownFault, Memory}
-use Rattle.fourier.specs.declared.solved.Solved.{Solved}
-use Rattle.fourier.specs.declared.solved.Solved.TheVariants.{Point as PointFound, Refuted as RefutedBy}
+use Rattle.linear_rows.specs.declared.solved.Solved.{Solved}
+use Rattle.linear_rows.specs.declared.solved.Solved.TheVariants.{Point as PointFound, Refuted as RefutedBy}
 
 -- an answer spells a solution; running out of memory is free
 abbrev pub Spells : Solution → Result Solved ElimFault → Type 0
@@ -35,16 +32,6 @@ SpellsUnless brief s (Err Memory) = Unit {0}
 abbrev pub SpellsOrBlown : Solution → Option Solved → Type 0
 SpellsOrBlown s (Some solved) = Spells s (Ok solved)
 SpellsOrBlown s None = (n : ℕ) × (w : Bool) × (s ≡ Blown n w)
-
--- a point is one of the rows, of n coefficients each, and multipliers refute them
-abbrev pub Decides : ℕ → List (List ℤ) → Solved → Type 0
-Decides n rows (PointFound p) = IsPoint n rows p.t p.w
-Decides n rows (RefutedBy m) = (m.scale ≡ pos 0) × Refutes n rows m.list
-
--- the test of multipliers that refute is in numbers that fit, so that `proves` answers Holds
-abbrev pub RefutesInFit : ℕ → List (List ℤ) → Solved → Type 0
-RefutesInFit n rows (PointFound p) = Unit {0}
-RefutesInFit n rows (RefutedBy m) = AllColumnsFit rows m.list (bottom_row n) (pos 0)
 
 -- the values as whole numbers, from the rows before each column's elimination
 abbrev pub whole_back : List (List (List ℤ)) → Option (List ℤ)

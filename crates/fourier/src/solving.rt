@@ -7,17 +7,17 @@ ghost use Rattle.linear_rows.specs.Solving.{solution, found_of, refutes_in};
 ghost use Rattle.linear_rows.specs.Solving.Solution.{Blown as BlownStep, Refuted as RefutedBy};
 ghost use Rattle.sparse_rows.specs.Adding.{AllFit};
 ghost use Rattle.fourier.specs.History.{AllLongerThan};
-ghost use Rattle.fourier.specs.Solves.{Spells, SpellsUnless, SpellsOrBlown, Decides, RefutesInFit, whole_back};
+ghost use Rattle.fourier.specs.Solves.{Spells, SpellsUnless, SpellsOrBlown, whole_back};
+ghost use Rattle.linear_rows.specs.Decides.{Decides, RefutesInFit};
 
 use crate::checking::{carried, point_fits};
 use crate::fault::{ElimFault, ValueFault};
 use crate::history::History;
 use crate::scaling::{common_of, made_whole};
 use crate::sequence::eliminate_columns;
-use crate::solved::Solved;
 use crate::starting::start_rows;
 use crate::valuing::values_of;
-use linear_rows::{Multipliers, Numbers, Point, Proof, Row, Rows, proves};
+use linear_rows::{Multipliers, Numbers, Point, Proof, Row, Rows, Solved, proves};
 use sparse_rows::Line;
 use std::alloc::{AllocError, Global};
 

@@ -24,9 +24,9 @@ ghost use Rattle.termination_model.specs.mappings.Supports.{picked_from};
 ghost use Rattle.termination_model.specs.mappings.ComponentViews.{HasSupportIn, component_view, members_in, positions_in};
 
 use cti_terms::{PredId, Program};
-use fourier::{ElimFault, Solved};
+use fourier::ElimFault;
 use level_systems::{Component, OwnCall, point_of, solve_by, support_system};
-use linear_rows::{Numbers, Point, are_natural};
+use linear_rows::{Numbers, Point, Solved, are_natural};
 use number_tests::{PairPoint, Refutation, points_flaw, sums_flaw};
 use sequences::Sequence;
 use std::alloc::{AllocError, Global};

@@ -16,12 +16,12 @@ ghost use Rattle.termination_model.specs.mappings.SupportSystem.{support_rows};
 
 use crate::falling::falls_of;
 use cti_terms::Program;
-use fourier::{ElimFault, Solved};
+use fourier::ElimFault;
 use level_systems::{
     Answer, Component, Mapping, Measure, Position, in_order, level_part, picked, solve_by,
     support_system,
 };
-use linear_rows::{Numbers, Rows};
+use linear_rows::{Numbers, Rows, Solved};
 use sequences::Sequence;
 use std::alloc::{AllocError, Global};
 

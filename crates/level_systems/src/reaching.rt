@@ -9,8 +9,7 @@ ghost use Rattle.linear_rows.specs.Showing.{bottom_row};
 ghost use Rattle.linear_rows.specs.Solving.{zeros};
 ghost use Rattle.linear_rows.specs.Systems.{at_last, test_rows};
 
-use fourier::Solved;
-use linear_rows::{Multipliers, Numbers, Point, Row, Rows, zeros};
+use linear_rows::{Multipliers, Numbers, Point, Row, Rows, Solved, zeros};
 use simplex::{Held, holds};
 use std::alloc::{AllocError, Global};
 

@@ -1,13 +1,14 @@
 //! Solving by pivots first, or by elimination alone.
 
 ghost use Rattle.std.specs.Prelude.{◌≡◌, IfOk, false};
-ghost use Rattle.fourier.specs.Solves.{Decides, Spells};
+ghost use Rattle.fourier.specs.Solves.{Spells};
+ghost use Rattle.linear_rows.specs.Decides.{Decides};
 ghost use Rattle.linear_rows.specs.Plain.{HaveWidth, plain_rows};
 ghost use Rattle.linear_rows.specs.Solving.{solution};
 ghost use Rattle.simplex.specs.Solving.{IsBlownAs};
 
-use fourier::{ElimFault, Solved};
-use linear_rows::Rows;
+use fourier::ElimFault;
+use linear_rows::{Rows, Solved};
 use std::alloc::Global;
 
 /// Solves by pivots, and by elimination where these find nothing, or by elimination alone.

@@ -4,7 +4,8 @@
 -- In each turn a mapping rises at none of the calls that remain, and those at which it falls by 1 leave. Where none
 -- remains, the mappings of the turns are a list that descends. Positions are numbered from 1, by predicate and argument.
 --
--- To believe: all of this file.
+-- To believe: all of this file but what speaks of the measures of turns (`AreMeasuresAt`, `IsListAt`, `AreMeasuresOf`,
+-- `IsMeasureOf`, `NoneDescends`), which no promise uses.
 use Rattle.std.specs.Prelude.{◌≡◌, ◌-◌, ◌⊎◌, ◌≤◌, ℕ, suc, ℤ, pos, Bool, true, false, List, [], ◌∷◌, ◌++◌, map, take, length, slice_get, Some}
 use Rattle.std.specs.List.{AllByRecursion}
 use Rattle.call_components.specs.Partition.{Partition}

@@ -1,4 +1,4 @@
-//! Components of many positions: one list, none of whose positions can be left out.
+//! Components of many positions in which no mapping decreases: one list, none of whose positions can be left out.
 
 ghost use Rattle.std.specs.Prelude.{◌≡◌, ◌↔◌, ◌<◌, ◌^◌, IfOk, IsTrue, length, map, true};
 ghost use Rattle.level_dual.specs.Components.{ForComponent};

@@ -18,9 +18,10 @@ use termination_model::Sizes;
 ///
 /// The component is recursive. Size rows say what is known of the sizes of a predicate's arguments. Of at most 12
 /// argument positions all supports are looked at, the smaller ones first, and each minimal support is given with one
-/// list; a list of one mapping, where one decreases with this support. Of more positions at most one list is given,
-/// none of whose positions can be left out. Supports whose search is given up are named. A stuck set is there where no
-/// list descends, unless the set of all positions is named as given up.
+/// list; a list of one mapping, where one decreases with this support. Of more positions at most one list is given: one
+/// mapping where one decreases, none of whose positions other mappings can leave out, and else a list, none of whose
+/// positions other lists can leave out. Supports whose search is given up are named. A stuck set is there where no list
+/// descends, unless the set of all positions is named as given up.
 ///
 /// Source: lexicographic ranking by linear programs, as in Alias, Darte, Feautrier and Gonnord 2010.
 pub fn search<N: Norm>(

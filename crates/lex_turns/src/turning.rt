@@ -18,10 +18,10 @@ ghost use Rattle.termination_model.specs.lists.TurnSystem.{turn_rows};
 use crate::dropping::{drops_of, empty_fall, some_fall};
 use crate::turn::{Made, Round, Step};
 use cti_terms::Program;
-use fourier::{ElimFault, Solved};
+use fourier::ElimFault;
 use level_dual::measures_at;
 use level_systems::{Component, Measure, solve_by, turn_system};
-use linear_rows::{Numbers, Rows};
+use linear_rows::{Numbers, Rows, Solved};
 use std::alloc::{AllocError, Global};
 
 /// Whether the calls that are never reached fall, where the turn is the first.

@@ -13,9 +13,9 @@ ghost use Rattle.termination_model.specs.mappings.Supports.{AreDistinct};
 use crate::turn::{Made, Round, Step};
 use crate::turning::{made_at, system_of, turn};
 use cti_terms::Program;
-use fourier::{ElimFault, Solved};
+use fourier::ElimFault;
 use level_systems::{Component, solve_by};
-use linear_rows::{Numbers, Row, Rows};
+use linear_rows::{Numbers, Row, Rows, Solved};
 use std::alloc::{AllocError, Global};
 
 /// 1 at a place, and 0 elsewhere.

@@ -15,3 +15,4 @@ pub mod Systems
 pub mod Irredundant
 pub mod Replacing
 pub mod Showing
+pub mod Decides

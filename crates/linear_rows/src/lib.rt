@@ -14,6 +14,7 @@ mod numbers;
 mod point;
 mod proving;
 mod row;
+mod solved;
 mod system;
 
 pub use columns::number;
@@ -23,4 +24,5 @@ pub use numbers::{Numbers, are_natural, zeros};
 pub use point::Point;
 pub use proving::proves;
 pub use row::{Row, RowList, Rows};
+pub use solved::Solved;
 pub use system::System;

@@ -14,7 +14,7 @@ use Rattle.cti_terms.specs.Derive.{IsDerivation, Bounded}
 use Rattle.cti_terms.proofs.Unifier.{instance_same, instance_twice}
 use Rattle.cti_terms.specs.Below.{AtomsBelow}
 use Rattle.cti_terms.specs.Lifts.{IsGoalOf, IsMoreGeneral, left_after}
-use Rattle.loop_finder.specs.Loop.{FirstIs, KeepsAtoms, ComesBack, IsLoop, GoesOn}
+use Rattle.loop_finder.specs.Loop.{FirstIs, KeepsAtoms, ComesBack, IsLoop, GoesOn, times}
 use Rattle.cti_terms.proofs.BelowLaws.{goal_below}
 use Rattle.cti_terms.proofs.Lifting.{Covers, Leads, Walks, derivation_below, derivation_lifts, leads_of}
 
@@ -66,20 +66,12 @@ leads_append : (p : Listing) (g : Goal) (ks : List ℕ) (h : Goal) (ls : List �
 leads_append p g [] h ls l d = subst (λ (x : Goal). IsDerivation p x ls) (sym l) d
 leads_append p g (k ∷ ks) h ls (bs, j, e, l) d = (bs, j, e, leads_append p j ks h ls l d)
 
--- a beginning of a derivation
-begins : (p : Listing) (g : Goal) (n : ℕ) (ks : List ℕ) → IsDerivation p g ks → n ≤ length ks → (js : List ℕ) × IsDerivation p g js × (length js ≡ n)
-begins p g zero ks d l = ([], tt, refl)
-begins p g (suc n) [] d l = absurd (omega (arith, l))
-begins p g (suc n) (k ∷ ks) (bs, h, e, d) l =
-    let r = begins p h n ks d (omega (arith, l)) in
-    (k ∷ r.0, (bs, h, e, r.1), ap suc r.2)
-
 -- ---- the cycle, over and over
 
 module _ (p : Listing) (ok : IsProgram p) (a : Atom) (rest : List Atom) (f : ℕ) (v : List ℕ) (ones : AllByRecursion (λ (i : ℕ). 1 ≤ i) v) (some : 1 ≤ length v) (h : Goal)
     (walks : Walks p (suc (length rest)) (record { atoms = a ∷ rest; fresh = f }) v h) (enough : suc (length rest) ≤ length h.atoms) (back : FirstIs (λ b. IsMoreGeneral b a) h.atoms) where
-  goes : (n : ℕ) (k : Goal) (b : Atom) (others : List Atom) → k.atoms ≡ b ∷ others → AtomsBelow k.fresh k.atoms → IsMoreGeneral b a → (ks : List ℕ) × IsDerivation p k ks × (n ≤ length ks)
-  goes zero k b others is below general = ([], tt, omega arith)
+  goes : (n : ℕ) (k : Goal) (b : Atom) (others : List Atom) → k.atoms ≡ b ∷ others → AtomsBelow k.fresh k.atoms → IsMoreGeneral b a → IsDerivation p k (times n v)
+  goes zero k b others is below general = tt
   goes (suc n) k b others is below general =
       let covers : Covers (length rest) (length others) (record { atoms = a ∷ rest; fresh = f }) k = record {
         by = general.0;
@@ -93,14 +85,13 @@ module _ (p : Listing) (ok : IsProgram p) (a : Atom) (rest : List Atom) (f : ℕ
         below = below;
       } in
       let d = derivation_lifts p ok (length rest) (length others) (record { atoms = a ∷ rest; fresh = f }) k v h ones covers walks in
-      let r = again d.0 d.2 (goes n d.0) in
-      (v ++ r.0, leads_append p k v d.0 r.0 d.1 r.1, (let l = length-append v r.0 in let m = r.2 in omega (arith, l, m, some)))
+      leads_append p k v d.0 (times n v) d.1 (again d.0 d.2 (goes n d.0))
     where
-      again : (l : Goal) → Covers (length rest) (length others) h l → ((c : Atom) (xs : List Atom) → l.atoms ≡ c ∷ xs → AtomsBelow l.fresh l.atoms → IsMoreGeneral c a → (ks : List ℕ) × IsDerivation p l ks × (n ≤ length ks))
-          → (ks : List ℕ) × IsDerivation p l ks × (n ≤ length ks)
+      again : (l : Goal) → Covers (length rest) (length others) h l → ((c : Atom) (xs : List Atom) → l.atoms ≡ c ∷ xs → AtomsBelow l.fresh l.atoms → IsMoreGeneral c a → IsDerivation p l (times n v))
+          → IsDerivation p l (times n v)
       again l c rec = go c.heads c.general c.special
         where
-          go : (heads : List Atom) → l.atoms ≡ heads ++ c.rest → h.atoms ≡ map (over (instance c.by)) heads ++ c.tail → (ks : List ℕ) × IsDerivation p l ks × (n ≤ length ks)
+          go : (heads : List Atom) → l.atoms ≡ heads ++ c.rest → h.atoms ≡ map (over (instance c.by)) heads ++ c.tail → IsDerivation p l (times n v)
           go [] l_is h_is =
               let count : length h.atoms ≡ length c.tail = ap length h_is in
               absurd (omega (arith, enough, count, c.more))
@@ -120,30 +111,31 @@ in_parts P (x ∷ xs) ys h = let r = in_parts P xs ys h.1 in ((h.0, r.0), r.1)
 
 from_goal : (p : Listing) (ok : IsProgram p) (atoms : List Atom) (f : ℕ) (v : List ℕ) → AllByRecursion (λ (i : ℕ). 1 ≤ i) v → v ≢ [] → AtomsBelow f atoms
     → KeepsAtoms p (length atoms) (record { atoms = atoms; fresh = f }) v → ComesBack p (record { atoms = atoms; fresh = f }) v
-    → (n : ℕ) → (ks : List ℕ) × IsDerivation p (record { atoms = atoms; fresh = f }) ks × (n ≤ length ks)
+    → (n : ℕ) → IsDerivation p (record { atoms = atoms; fresh = f }) (times n v)
 from_goal p ok [] f v ones some below keeps back n = absurd back
 from_goal p ok (a ∷ rest) f v ones some below keeps back n = go (left_after p (record { atoms = a ∷ rest; fresh = f }) v) refl back
   where
     go : (o : Option Goal) → left_after p (record { atoms = a ∷ rest; fresh = f }) v ≡ o → IsSomeAnd o (λ (h : Goal). FirstIs (λ b. IsMoreGeneral b a) h.atoms)
-        → (ks : List ℕ) × IsDerivation p (record { atoms = a ∷ rest; fresh = f }) ks × (n ≤ length ks)
+        → IsDerivation p (record { atoms = a ∷ rest; fresh = f }) (times n v)
     go None e b = absurd b
     go (Some h) e b =
         let w = walks_of p (suc (length rest)) (record { atoms = a ∷ rest; fresh = f }) v h (omega arith) keeps e in
         goes p ok a rest f v ones (not_empty v some) h w.0 w.1 b n (record { atoms = a ∷ rest; fresh = f }) a rest refl below (itself a)
 
-loop_length : (p : Listing) (g : Goal) (u v : List ℕ) → IsProgram p → IsGoalOf p g → IsLoop p g u v → (n : ℕ) → (ks : List ℕ) × IsDerivation p g ks × (n ≤ length ks)
-loop_length p g u v ok goal loop n =
+pub loop_goes_on : (p : Listing) (g : Goal) (u v : List ℕ) → IsProgram p → IsGoalOf p g → IsLoop p g u v → GoesOn p g u v
+loop_goes_on p g u v ok goal loop n =
     let both = in_parts (λ (i : ℕ). 1 ≤ i) u v loop.clauses in
     let leads = leads_of p g u loop.before loop.leads in
     let below = derivation_below p ok g u loop.before both.0 (goal_below p g.fresh g.atoms goal) leads in
-    let d = from_goal p ok loop.before.atoms loop.before.fresh v both.1 loop.cycle below loop.keeps loop.back n in
-    (u ++ d.0, leads_append p g u loop.before d.0 leads d.1, (let l = length-append u d.0 in let m = d.2 in omega (arith, l, m)))
+    leads_append p g u loop.before (times n v) leads (from_goal p ok loop.before.atoms loop.before.fresh v both.1 loop.cycle below loop.keeps loop.back n)
 
-pub loop_goes_on : (p : Listing) (g : Goal) (u v : List ℕ) → IsProgram p → IsGoalOf p g → IsLoop p g u v → GoesOn p g
-loop_goes_on p g u v ok goal loop n = let r = loop_length p g u v ok goal loop n in begins p g n r.0 r.1 r.2
+times_long : (n : ℕ) (v : List ℕ) → 1 ≤ length v → n ≤ length (times n v)
+times_long zero v some = omega arith
+times_long (suc n) v some = let l = length-append v (times n v) in let m = times_long n v some in omega (arith, l, m, some)
 
-pub not_bounded : (p : Listing) (g : Goal) → GoesOn p g → Bounded p g → ⊥
-not_bounded p g goes b =
-    let d = goes b.0 in
-    let less = b.1 d.0 d.1 in
-    omega (arith, less, d.2)
+pub not_bounded : (p : Listing) (g : Goal) (u v : List ℕ) → v ≢ [] → GoesOn p g u v → Bounded p g → ⊥
+not_bounded p g u v some goes b =
+    let less = b.1 (u ++ times b.0 v) (goes b.0) in
+    let l = length-append u (times b.0 v) in
+    let m = times_long b.0 v (not_empty v some) in
+    omega (arith, less, l, m)

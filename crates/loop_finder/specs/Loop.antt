@@ -7,7 +7,7 @@
 -- the cycle's clauses can be gone through again, and over again.
 --
 -- To believe: all of this file.
-use Rattle.std.specs.Prelude.{◌≡◌, ◌≢◌, ℕ, ◌≤◌, List, [], ◌∷◌, ◌++◌, length, Some, IsSomeAnd}
+use Rattle.std.specs.Prelude.{◌≡◌, ◌≢◌, ℕ, zero, suc, ◌≤◌, List, [], ◌∷◌, ◌++◌, length, Some, IsSomeAnd}
 use Rattle.std.specs.List.{AllByRecursion}
 use Rattle.cti_terms.specs.declared.atom_list.Atom.{Atom}
 use Rattle.cti_terms.specs.declared.derivation.Goal.{Goal}
@@ -37,6 +37,11 @@ pub record IsLoop (p : Listing) (g : Goal) (u v : List ℕ) : Type 0 where
   pub keeps : KeepsAtoms p (length before.atoms) before v
   pub back : ComesBack p before v
 
--- there are derivations of every length
-abbrev pub GoesOn : Listing → Goal → Type 0
-GoesOn p g = (n : ℕ) → (ks : List ℕ) × IsDerivation p g ks × (length ks ≡ n)
+-- a list this many times
+abbrev pub times : ℕ → List ℕ → List ℕ
+times zero v = []
+times (suc n) v = v ++ times n v
+
+-- u, and then v so many times, is a derivation, however often: so there are derivations of every length
+abbrev pub GoesOn : Listing → Goal → List ℕ → List ℕ → Type 0
+GoesOn p g u v = (n : ℕ) → IsDerivation p g (u ++ times n v)

@@ -77,9 +77,9 @@ pub fn find(alloc: Global, program: &Program, goal: &Goal, depth: u32) -> Result
     ensures looked { IfOk result
         (IsLooked program.now goal.now (clause_nodes program.now depth goal.now)) }
 
-    // Where it answers a loop, there are derivations of every length, so the goal is not bounded.
+    // Where it answers a loop, the cycle can be gone through over and over again, so the goal is not bounded.
     ensures goes_on { IfOk result (IfLoop (GoesOn program.now goal.now)) }
-    ensures unbounded { IfOk result (IfLoop (Bounded program.now goal.now → ⊥)) }
+    ensures unbounded { IfOk result (IfLoop (λ _ _. Bounded program.now goal.now → ⊥)) }
 {
     let _count = program.clauses();
     let mut effort = Effort {

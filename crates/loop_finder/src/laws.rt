@@ -15,10 +15,10 @@ ghost use Rattle.loop_finder.specs.Loop.{GoesOn, IsLoop};
 ghost use Rattle.loop_finder.specs.Matching.{is_more_general};
 ghost use Rattle.cti_terms.specs.MostGeneral.{IsMostGeneral, Solves};
 
-/// A goal with a loop has derivations of every length, so it is not bounded.
+/// The cycle of a loop can be gone through over and over again, so its goal is not bounded.
 pub fn a_loop_goes_on()
     ensures on { (p : Listing) (g : Goal) (u v : List ℕ) → IsProgram p → IsGoalOf p g
-        → IsLoop p g u v → GoesOn p g }
+        → IsLoop p g u v → GoesOn p g u v }
     ensures unbounded { (p : Listing) (g : Goal) (u v : List ℕ) → IsProgram p → IsGoalOf p g
         → IsLoop p g u v → ¬ Bounded p g }
 {}

@@ -21,3 +21,5 @@ mod rows;
 mod sizes;
 #[cfg(test)]
 mod systems;
+#[cfg(test)]
+mod values;

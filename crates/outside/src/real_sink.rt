@@ -1,12 +1,10 @@
 //! A writer of the machine.
 
-ghost use Rattle.std.specs.Prelude.{◌≡◌, ◌≤◌, None, length, IfOk};
+ghost use Rattle.std.specs.Prelude.{◌≡◌, ◌≤◌, ◌++◌, ◌⊎◌, [], None, ℕ, length, take, IfOk};
 
 use crate::sink::{Sink, SinkFault};
+use std::alloc::Global;
 use std::io::{ErrorKind, Write};
-
-/// How many bytes are kept: more than the longest line of a refusal.
-const MOST_KEPT: usize = 64;
 
 /// A writer such as standard output, and the beginning of what it took. Contracts do not see the bytes that it took.
 #[derive(Drop)]
@@ -14,44 +12,64 @@ pub struct RealSink<W: Write + Drop> {
     pub inner: W,
     /// How many writes failed; it stays at 2^64 - 1.
     pub faults: u64,
-    /// The first bytes that were taken.
-    head: [u8; MOST_KEPT],
     /// How many bytes were taken; it stays at 2^64 - 1.
     taken: u64,
+    /// The first of them, while they are at most `most` and there is memory.
+    text: Vec<u8>,
+    /// The most bytes that are kept.
+    most: usize,
 }
 
 impl<W: Write + Drop> RealSink<W> {
-    /// A sink before a first byte.
-    pub fn new(inner: W) -> RealSink<W> {
+    /// A sink before a first byte, which keeps the first bytes that it takes, at most `most`.
+    pub fn new(alloc: Global, inner: W, most: usize) -> RealSink<W>
+        ensures { (result.text.items ≡ []) × (result.faults ≡ 0) × (result.taken ≡ 0) }
+    {
         RealSink {
             inner,
             faults: 0,
-            head: [0; MOST_KEPT],
             taken: 0,
+            text: Vec::new(alloc),
+            most,
         }
     }
 
-    /// The first bytes that were taken, at most 64.
-    pub fn head(&self) -> &[u8] {
-        let count = usize::try_from(self.taken).unwrap_or(MOST_KEPT);
-        &self.head[..count.min(MOST_KEPT)]
+    /// The first bytes that were taken, as many as were kept.
+    pub fn head(&self) -> &[u8]
+        ensures { result.now ≡ self.now.text.items }
+    {
+        &self.text
     }
 
     /// How many bytes were taken; it stays at 2^64 - 1.
-    pub fn taken(&self) -> u64 {
+    pub fn taken(&self) -> u64
+        ensures { result ≡ self.now.taken }
+    {
         self.taken
+    }
+
+    /// What was taken, or nothing where not all of it was kept.
+    pub fn text(&self) -> &[u8]
+        ensures { (result.now ≡ self.now.text.items) ⊎ (result.now ≡ []) }
+    {
+        if self.text.len() as u64 == self.taken {
+            &self.text
+        } else {
+            &[]
+        }
     }
 
     /// Notes bytes that were taken.
     fn note(&mut self, bytes: &[u8])
-        ensures { self.new.faults ≡ self.old.faults }
+        ensures faults { self.new.faults ≡ self.old.faults }
+        ensures text { (n : ℕ) × (self.new.text.items ≡ self.old.text.items ++ take n bytes.now) }
     {
-        for byte in bytes {
-            if self.taken < MOST_KEPT as u64 {
-                self.head[self.taken as usize] = *byte;
-            }
-            self.taken = self.taken.saturating_add(1);
+        let room = self.most.saturating_sub(self.text.len());
+        if self.text.len() as u64 == self.taken {
+            // What there is no memory for is not kept.
+            let _ = self.text.extend_from_slice(&bytes[..bytes.len().min(room)]);
         }
+        self.taken = self.taken.saturating_add(bytes.len() as u64);
     }
 }
 

@@ -1,14 +1,13 @@
 //! Lists of numbers, which count as 0 past their end.
 
-ghost use Rattle.std.specs.Prelude.{◌≡◌};
-ghost use Rattle.exact128.specs.Sums.{entry};
+ghost use Rattle.std.specs.Prelude.{◌≡◌, pos, slice_index_or};
 
 use crate::sequence::Sequence;
 
 impl Sequence<i128> {
     /// The number at a place, or 0 past the end. Places count from 0.
     pub fn entry(&self, place: usize) -> i128
-        ensures { result ≡ entry self.now place }
+        ensures { result ≡ slice_index_or self.now place (pos 0) }
     {
         let numbers = self.as_slice();
         if place < numbers.len() {

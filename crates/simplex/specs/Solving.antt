@@ -5,7 +5,7 @@ use Rattle.linear_rows.specs.Solving.{Solution}
 use Rattle.linear_rows.specs.Solving.Solution.{Blown}
 use Rattle.fourier.specs.declared.fault.ElimFault.{ElimFault}
 use Rattle.fourier.specs.declared.fault.ElimFault.TheVariants.{Blown as BlownFault, Memory}
-use Rattle.fourier.specs.declared.solved.Solved.{Solved}
+use Rattle.linear_rows.specs.declared.solved.Solved.{Solved}
 
 -- a blown answer is that of elimination, with its step; running out of memory is free
 abbrev pub IsBlownAs : Solution → Result Solved ElimFault → Type 0

@@ -14,8 +14,8 @@ use Rattle.linear_rows.specs.Rows.{HoldsOn}
 use Rattle.linear_rows.specs.Solving.Solution.{Refuted}
 use Rattle.linear_rows.specs.declared.multipliers.Multipliers.{Multipliers}
 use Rattle.linear_rows.specs.Showing.{Shows, FailsAt}
-use Rattle.fourier.specs.declared.solved.Solved.{Solved}
-use Rattle.fourier.specs.declared.solved.Solved.TheVariants.{Point, Refuted as RefutedBy}
+use Rattle.linear_rows.specs.declared.solved.Solved.{Solved}
+use Rattle.linear_rows.specs.declared.solved.Solved.TheVariants.{Point, Refuted as RefutedBy}
 use Rattle.simplex.specs.declared.held.Held.{Held}
 use Rattle.simplex.specs.declared.held.Held.TheVariants.{Yes as HeldYes, No as HeldNo, Blown}
 use Rattle.simplex.specs.declared.implication.Implied.{Implied}

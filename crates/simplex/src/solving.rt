@@ -3,11 +3,11 @@
 ghost use Rattle.std.specs.Prelude.{IfOk};
 ghost use Rattle.linear_rows.specs.Plain.{plain_rows, HaveWidth};
 ghost use Rattle.linear_rows.specs.Solving.{solution};
-ghost use Rattle.fourier.specs.Solves.{Decides, RefutesInFit};
+ghost use Rattle.linear_rows.specs.Decides.{Decides, RefutesInFit};
 ghost use Rattle.simplex.specs.Solving.{IsBlownAs};
 
-use fourier::{ElimFault, Solved};
-use linear_rows::Rows;
+use fourier::ElimFault;
+use linear_rows::{Rows, Solved};
 use std::alloc::Global;
 use tableaux::found;
 

@@ -7,7 +7,7 @@ ghost use Rattle.linear_rows.specs.Blown.{all_of};
 ghost use Rattle.linear_rows.specs.Plain.{plain_row, plain_rows, HaveWidth};
 ghost use Rattle.linear_rows.specs.Systems.{test_rows};
 ghost use Rattle.linear_rows.specs.Proves.{Refutes};
-ghost use Rattle.fourier.specs.Solves.{Decides};
+ghost use Rattle.linear_rows.specs.Decides.{Decides};
 ghost use Rattle.simplex.specs.Telling.{IsTest, SaysHolds, Tells, TellsIfFits, ShowsIfFits};
 
 use crate::basis::Basis;
@@ -16,8 +16,7 @@ use crate::held::Held;
 use crate::implication::Implied;
 use crate::systems::test_system;
 use crate::wide_multipliers::WideMultipliers;
-use fourier::Solved;
-use linear_rows::{Multipliers, Numbers, Point, Proof, Row, Rows, proves};
+use linear_rows::{Multipliers, Numbers, Point, Proof, Row, Rows, Solved, proves};
 use std::alloc::{AllocError, Global};
 use tableaux::found;
 

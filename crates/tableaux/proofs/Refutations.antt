@@ -7,7 +7,7 @@ use Rattle.linear_rows.specs.Rows.{column}
 use Rattle.linear_rows.specs.Showing.{bottom_row}
 use Rattle.linear_rows.specs.Verdict.{Says}
 use Rattle.linear_rows.specs.declared.multipliers.Proof.TheVariants.{Holds}
-use Rattle.fourier.specs.declared.solved.Solved.TheVariants.{Refuted}
+use Rattle.linear_rows.specs.declared.solved.Solved.TheVariants.{Refuted}
 use Rattle.tableaux.specs.Finding.{Solves}
 use Rattle.linear_rows.proofs.Refutes.{length-zeros}
 

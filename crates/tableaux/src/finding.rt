@@ -7,8 +7,7 @@ ghost use Rattle.linear_rows.specs.Rows.{IsPoint};
 ghost use Rattle.tableaux.specs.Finding.{Solves};
 
 use crate::tableau::{End, Tableau};
-use fourier::Solved;
-use linear_rows::{Multipliers, Numbers, Point, Proof, Row, Rows, are_natural, proves};
+use linear_rows::{Multipliers, Numbers, Point, Proof, Row, Rows, Solved, are_natural, proves};
 use std::alloc::{AllocError, Global};
 
 /// What pivots find of rows: a point, or multipliers that refute, if either is found and stands its test.

@@ -11,11 +11,11 @@ use Rattle.cti_terms.proofs.ResolveLaws.{resolve_finds}
 use Rattle.termination_model.proofs.Order.{less_or_same}
 
 -- the greatest value below or at a number
-abbrev most : (ℕ → ℕ) → ℕ → ℕ
+abbrev pub most : (ℕ → ℕ) → ℕ → ℕ
 most f zero = f zero
 most f (suc n) = max (most f n) (f (suc n))
 
-le-most : (f : ℕ → ℕ) (n k : ℕ) → k ≤ n → f k ≤ most f n
+pub le-most : (f : ℕ → ℕ) (n k : ℕ) → k ≤ n → f k ≤ most f n
 le-most f zero k h = let same : k ≡ 0 = omega arith in rw same (omega arith)
 le-most f (suc n) k h =
     elim (less_or_same k (suc n) h) [
@@ -23,7 +23,7 @@ le-most f (suc n) k h =
       | inr same ↦ rw same (omega arith)
     ]
 
-within : {X : Type 0} (Q : X → Type 0) (xs : List X) (i : ℕ) → IsSomeAnd (slice_get xs i) Q → i < length xs
+pub within : {X : Type 0} (Q : X → Type 0) (xs : List X) (i : ℕ) → IsSomeAnd (slice_get xs i) Q → i < length xs
 within Q [] i h = absurd h
 within Q (x ∷ xs) zero h = omega arith
 within Q (x ∷ xs) (suc i) h = omega (arith, within Q xs i h)
@@ -44,7 +44,7 @@ module _ (p : Listing) (g : Goal) (step : (k : ℕ) (bs : List Binding) (h : Goa
   abbrev number : ℕ → ℕ
   number k = (exceeded k).0
 
-  number_within : (k : ℕ) (bs : List Binding) (h : Goal) → resolve p g k ≡ Some (bs, h) → k ≤ length p.clauses
+  pub number_within : (k : ℕ) (bs : List Binding) (h : Goal) → resolve p g k ≡ Some (bs, h) → k ≤ length p.clauses
   number_within zero bs h r = omega arith
   number_within (suc i) bs h r = omega (arith, within (λ c. LeavesFrom g.atoms g.fresh c bs h) p.clauses i (resolve_finds p g (suc i) bs h r))
 

@@ -21,27 +21,27 @@ use Rattle.term_size.specs.Norm.{IsNorm}
 use Rattle.termination_model.specs.claims.Claims.{Claims, sizes, IsSized, Shows}
 use Rattle.termination_model.specs.grounds.Grounds.{truth_row, IsGround}
 use Rattle.termination_model.specs.sizes.Stated.{stated_rows}
-use Rattle.termination_model.proofs.Facts.{ByItself}
+use Rattle.cti_terms.specs.Resolve.{over}
 
-some_inside : {X Y : Type 0} (f : X → Option Y) (o : Option X) (y : Y) → option_and_then f o ≡ Some y → (x : X) × (o ≡ Some x)
+pub some_inside : {X Y : Type 0} (f : X → Option Y) (o : Option X) (y : Y) → option_and_then f o ≡ Some y → (x : X) × (o ≡ Some x)
 some_inside f None y e = absurd (cc)
 some_inside f (Some x) y e = (x, refl)
 
-both_inside : (o : Option ℤ) (q : Option (List ℤ)) (zs : List ℤ) → both o q ≡ Some zs → (z : ℤ) × (xs : List ℤ) × (o ≡ Some z) × (q ≡ Some xs)
+pub both_inside : (o : Option ℤ) (q : Option (List ℤ)) (zs : List ℤ) → both o q ≡ Some zs → (z : ℤ) × (xs : List ℤ) × (o ≡ Some z) × (q ≡ Some xs)
 both_inside None q zs e = absurd (cc)
 both_inside (Some z) None zs e = absurd (cc)
 both_inside (Some z) (Some xs) zs e = (z, xs, refl, refl)
 
 mutual
   -- a term with a value has no variable
-  value_rigid : (o : Option Arith) (t : Tree) (n : ℤ) → value o t ≡ Some n → is_rigid t ≡ true
+  pub value_rigid : (o : Option Arith) (t : Tree) (n : ℤ) → value o t ≡ Some n → is_rigid t ≡ true
   value_rigid o (Variable x) n e = absurd (cc)
   value_rigid o (Integer m) n e = refl
   value_rigid o (Compound f ts) n e =
       let i = some_inside (operation o f) (all_values o ts) n e in
       all_values_rigid o ts i.0 i.1
 
-  all_values_rigid : (o : Option Arith) (ts : Trees) (ns : List ℤ) → all_values o ts ≡ Some ns → all_truths (λ _. false) ts ≡ true
+  pub all_values_rigid : (o : Option Arith) (ts : Trees) (ns : List ℤ) → all_values o ts ≡ Some ns → all_truths (λ _. false) ts ≡ true
   all_values_rigid o End ns e = refl
   all_values_rigid o (More t ts) ns e =
       let i = both_inside (value o t) (all_values o ts) ns e in
@@ -54,11 +54,11 @@ applied_integer [] n = refl
 applied_integer (b ∷ bs) n = applied_integer bs n
 
 -- an argument that is an integer after the bindings
-assigned_integer : (x : Tree) (o : Option ℤ) (bs : List Binding) → assigned x o ≡ Some bs → (n : ℤ) × (o ≡ Some n) × (applied bs x ≡ Integer n)
+pub assigned_integer : (x : Tree) (o : Option ℤ) (bs : List Binding) → assigned x o ≡ Some bs → (n : ℤ) × (o ≡ Some n) × (applied bs x ≡ Integer n)
 assigned_integer x None bs e = absurd (cc)
 assigned_integer x (Some n) bs e = (n, refl, (unifier_unifies (unify_finds ((x, Integer n) ∷ []) bs e)).0 ∙ applied_integer bs n)
 
-tested_values : (b : Builtin) (o q : Option ℤ) (bs : List Binding) → tested b o q ≡ Some bs → (m : ℤ) × (n : ℤ) × (o ≡ Some m) × (q ≡ Some n)
+pub tested_values : (b : Builtin) (o q : Option ℤ) (bs : List Binding) → tested b o q ≡ Some bs → (m : ℤ) × (n : ℤ) × (o ≡ Some m) × (q ≡ Some n)
 tested_values b None q bs e = absurd (cc)
 tested_values b (Some m) None bs e = absurd (cc)
 tested_values b (Some m) (Some n) bs e = (m, n, refl, refl)
@@ -104,7 +104,7 @@ unfolding dot
 is_row w u r e (inl same) = subst (λ (x : List ℤ). Holds x 1 (w ∷ u ∷ [])) same (rw e (omega (arith, ints)))
 is_row w u r e (inr none) = absurd none
 
-stated_row : (b : Builtin) (w u : ℕ) (r : List ℤ) → (b ≡ Is → w ≡ 0) → In r (stated_rows b) → Holds r 1 (w ∷ u ∷ [])
+pub stated_row : (b : Builtin) (w u : ℕ) (r : List ℤ) → (b ≡ Is → w ≡ 0) → In r (stated_rows b) → Holds r 1 (w ∷ u ∷ [])
 stated_row Is w u r h i = is_row w u r (h refl) i
 stated_row Equal w u r h i = absurd i
 stated_row NotEqual w u r h i = absurd i
@@ -113,13 +113,13 @@ stated_row AtMost w u r h i = absurd i
 stated_row Greater w u r h i = absurd i
 stated_row AtLeast w u r h i = absurd i
 
-two_arguments : (f : Tree → Tree → Option (List Binding)) (xs : List Tree) (bs : List Binding) → at_two f None xs ≡ Some bs → (x : Tree) × (y : Tree) × (xs ≡ x ∷ (y ∷ [])) × (f x y ≡ Some bs)
+pub two_arguments : (f : Tree → Tree → Option (List Binding)) (xs : List Tree) (bs : List Binding) → at_two f None xs ≡ Some bs → (x : Tree) × (y : Tree) × (xs ≡ x ∷ (y ∷ [])) × (f x y ≡ Some bs)
 two_arguments f [] bs e = absurd (cc)
 two_arguments f (x ∷ []) bs e = absurd (cc)
 two_arguments f (x ∷ (y ∷ [])) bs e = (x, y, refl, e)
 two_arguments f (x ∷ (y ∷ (z ∷ zs))) bs e = absurd (cc)
 
-kind_there : (o : Option Arith) (k : Option Builtin) (xs : List Tree) (bs : List Binding) → passes_as o k xs ≡ Some bs → (b : Builtin) × (k ≡ Some b) × (at_two (succeeds o b) None xs ≡ Some bs)
+pub kind_there : (o : Option Arith) (k : Option Builtin) (xs : List Tree) (bs : List Binding) → passes_as o k xs ≡ Some bs → (b : Builtin) × (k ≡ Some b) × (at_two (succeeds o b) None xs ≡ Some bs)
 kind_there o None xs bs e = absurd (cc)
 kind_there o (Some b) xs bs e = (b, refl, e)
 
@@ -127,10 +127,15 @@ each : {X : Type 0} (P Q : X → Type 0) → ((x : X) → P x → Q x) → (xs :
 each P Q f [] h = tt
 each P Q f (x ∷ xs) h = (f x h.0, each P Q f xs h.1)
 
+-- an atom keeps its ground rows and size rows under bindings
+abbrev pub KeptBy : Claims → Atom → List Binding → Type 0
+KeptBy c a bs =
+    ((v : ℕ → Bool) → IsGround c.truth c.grounds (λ x. c.truth v (applied bs (Variable x))) a) × ((s : ℕ → ℕ) → IsSized c (λ x. c.size s (applied bs (Variable x))) a)
+
 module _ (p : Listing) (c : Claims) (shows : Shows p c) where
-  -- a built-in atom that succeeds goes away by itself
-  pub builtin_goes : (a : Atom) (rest : List Atom) (n : ℕ) (bs : List Binding) (h : Goal) → Passes p.arithmetic a rest n bs h → ByItself c a rest h
-  builtin_goes a rest n bs h l = (bs, l.atoms, grounded, sized)
+  -- a built-in atom that succeeds keeps its rows
+  pub builtin_keeps : (a : Atom) (rest : List Atom) (n : ℕ) (bs : List Binding) (h : Goal) → Passes p.arithmetic a rest n bs h → KeptBy c a bs
+  builtin_keeps a rest n bs h l = (grounded, sized)
     where
       known : (b : Builtin) × (kind_of p.arithmetic a.pred.0 ≡ Some b) × (at_two (succeeds p.arithmetic.names b) None a.args ≡ Some bs)
       known = kind_there p.arithmetic.names (kind_of p.arithmetic a.pred.0) a.args bs l.passes
@@ -152,3 +157,9 @@ module _ (p : Listing) (c : Claims) (shows : Shows p c) where
           let s1 : ℕ → ℕ = λ x. c.size s (applied bs (Variable x)) in
           each (λ (r : List ℤ). In r (stated_rows known.0)) (λ (r : List ℤ). Holds r 1 (sizes c s1 a))
           (λ r i. subst (λ (ts : List Tree). Holds r 1 (map (c.size s1) ts)) (sym two.2) (stated_row known.0 (c.size s1 two.0) (c.size s1 two.1) r (here.2 s) i)) (c.rows a.pred.0) (shows.stated a.pred.0 known.0 known.1)
+
+  -- and goes away by itself
+  pub builtin_goes : (a : Atom) (rest : List Atom) (n : ℕ) (bs : List Binding) (h : Goal) → Passes p.arithmetic a rest n bs h
+      → (cs : List Binding) × (h.atoms ≡ map (over (applied cs)) rest)
+      × ((v : ℕ → Bool) → IsGround c.truth c.grounds (λ x. c.truth v (applied cs (Variable x))) a) × ((s : ℕ → ℕ) → IsSized c (λ x. c.size s (applied cs (Variable x))) a)
+  builtin_goes a rest n bs h l = let k = builtin_keeps a rest n bs h l in (bs, l.atoms, k.0, k.1)

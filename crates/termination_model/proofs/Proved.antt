@@ -38,13 +38,13 @@ short_all t w (r ∷ rows) h zero d l = short_holds t w r (h 0 r (omega arith))
 short_all t w (r ∷ rows) h (suc k) d l = short_all t w rows (λ j e m. h (suc j) e (omega arith)) k d (omega arith)
 
 -- what is provable from short rows holds on the rows
-provable_holds : (n : ℕ) (rows : List (List ℤ)) (target : List ℤ) → length target ≡ n → Provable (map short_row rows) target → HoldsOn n rows target
+pub provable_holds : (n : ℕ) (rows : List (List ℤ)) (target : List ℤ) → length target ≡ n → Provable (map short_row rows) target → HoldsOn n rows target
 provable_holds n rows target len (ms, zero, nonneg, h) t w ht hw hr =
     absurd (law_empty (map short_row rows) ms target nonneg h t w ht (hw ∙ sym len) (short_all t w rows hr))
 provable_holds n rows target len (ms, suc d, nonneg, h) t w ht hw hr =
     law_holds (map short_row rows) ms target d nonneg h t w ht (hw ∙ sym len) (short_all t w rows hr)
 
-length-replicate' : (n : ℕ) → length (replicate n (pos 0)) ≡ n
+pub length-replicate' : (n : ℕ) → length (replicate n (pos 0)) ≡ n
 length-replicate' zero = refl
 length-replicate' (suc n) = ap suc (length-replicate' n)
 
@@ -55,7 +55,7 @@ length-added n (x ∷ xs) [] h k = h
 length-added zero (x ∷ xs) (y ∷ ys) h k = absurd (omega arith)
 length-added (suc n) (x ∷ xs) (y ∷ ys) h k = ap suc (length-added n xs ys (omega arith) (omega arith))
 
-length-added-le : (n : ℕ) (xs ys : List ℤ) → length xs ≤ n → length ys ≤ n → length (added xs ys) ≤ n
+pub length-added-le : (n : ℕ) (xs ys : List ℤ) → length xs ≤ n → length ys ≤ n → length (added xs ys) ≤ n
 length-added-le n [] ys h k = k
 length-added-le n (x ∷ xs) [] h k = h
 length-added-le zero (x ∷ xs) (y ∷ ys) h k = absurd (omega arith)

@@ -18,7 +18,7 @@ use Rattle.termination_model.proofs.Naturals.{never_below}
 use Rattle.termination_model.proofs.Entries.{dot_nil}
 
 -- the second list of a product of lists
-dot_sum : (cs xs ys : List ℤ) → dot cs (added xs ys) ≡ dot cs xs +ℤ dot cs ys
+pub dot_sum : (cs xs ys : List ℤ) → dot cs (added xs ys) ≡ dot cs xs +ℤ dot cs ys
 unfolding dot
 dot_sum [] xs ys = omega (arith, ints)
 dot_sum (a ∷ cs) [] ys = omega (arith, ints)
@@ -146,7 +146,7 @@ rows_along rows t w u k len h g i d l =
     subst (λ (z : ℤ). pos 0 ≤ℤ z) (sym e) (omega (arith, ints))
 
 -- a row that holds where the rows do holds at points at infinity too
-at_infinity : (n : ℕ) (rows : List (List ℤ)) (row : List ℤ) → HoldsOn n rows row → (t : ℕ) (w u : List ℕ) → 1 ≤ t → length w + 1 ≡ n → length u ≡ length w → AllHold rows t w → AllHold rows 0 u
+pub at_infinity : (n : ℕ) (rows : List (List ℤ)) (row : List ℤ) → HoldsOn n rows row → (t : ℕ) (w u : List ℕ) → 1 ≤ t → length w + 1 ≡ n → length u ≡ length w → AllHold rows t w → AllHold rows 0 u
     → pos 0 ≤ℤ dot row (pos 0 ∷ map pos u)
 at_infinity n rows row on t w u ht lw lu hw hu =
     never_below (dot row (pos t ∷ map pos w)) (dot row (pos 0 ∷ map pos u))

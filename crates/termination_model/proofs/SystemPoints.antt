@@ -41,7 +41,7 @@ dot_combined [] rows ps = refl
 dot_combined (m ∷ ms) [] ps = refl
 dot_combined (m ∷ ms) (r ∷ rs) ps = rw (dot_added (scaled m r) (combined ms rs) ps, dot_scaled m r ps, dot_combined ms rs ps)
 
-dot_substituted : (n : ℕ) (es : List (List ℤ)) (row vs xs : List ℤ) → map (λ e. dot e (pos 1 ∷ vs)) es ≡ xs → dot (substituted n es row) (pos 1 ∷ vs) ≡ dot row (pos 1 ∷ xs)
+pub dot_substituted : (n : ℕ) (es : List (List ℤ)) (row vs xs : List ℤ) → map (λ e. dot e (pos 1 ∷ vs)) es ≡ xs → dot (substituted n es row) (pos 1 ∷ vs) ≡ dot row (pos 1 ∷ xs)
 unfolding dot
 dot_substituted n es [] vs xs h = dot_zeros (suc n) (pos 1 ∷ vs)
 dot_substituted n es (b ∷ row) vs xs h =
@@ -64,7 +64,7 @@ to_all P [] h k d l = absurd (omega arith)
 to_all P (x ∷ xs) h zero d l = h.0
 to_all P (x ∷ xs) h (suc k) d l = to_all P xs h.1 k d (omega arith)
 
-all_append : {X : Type 0} (P : X → Type 0) (xs ys : List X) → AllByRecursion P xs → AllByRecursion P ys → AllByRecursion P (xs ++ ys)
+pub all_append : {X : Type 0} (P : X → Type 0) (xs ys : List X) → AllByRecursion P xs → AllByRecursion P ys → AllByRecursion P (xs ++ ys)
 all_append P [] ys h k = k
 all_append P (x ∷ xs) ys h k = (h.0, all_append P xs ys h.1 k)
 
@@ -107,7 +107,7 @@ module _ (c : Claims) (norm : IsNorm c.size c.truth c.expression) (n : ℕ) (s :
       let t = dot_total (l.coefficients a.pred.0) (sizes c s a) in
       e ∙ omega (arith, ints, t)
 
-dot_one : (d : ℕ) (ps : List ℤ) → dot (pos d ∷ []) (pos 1 ∷ ps) ≡ pos d
+pub dot_one : (d : ℕ) (ps : List ℤ) → dot (pos d ∷ []) (pos 1 ∷ ps) ≡ pos d
 unfolding dot
 dot_one d ps = omega (arith, ints)
 

@@ -10,7 +10,7 @@ use Rattle.cti_terms.specs.Resolve.{over, raised}
 use Rattle.cti_terms.proofs.Unifier.{applied_instance}
 use Rattle.termination_model.proofs.Walk.{Follows, follows_map, follows_append, follows_tags, all_map}
 
-map_over : {A : Type 0} (g h : Tree → A) (f : Tree → Tree) → ((t : Tree) → g (f t) ≡ h t) → (ts : List Tree) → map g (map f ts) ≡ map h ts
+pub map_over : {A : Type 0} (g h : Tree → A) (f : Tree → Tree) → ((t : Tree) → g (f t) ≡ h t) → (ts : List Tree) → map g (map f ts) ≡ map h ts
 map_over g h f same [] = refl
 map_over g h f same (t ∷ ts) = λ i. same t i ∷ map_over g h f same ts i
 
@@ -28,10 +28,10 @@ module _ {A : Type 0} (F : (ℕ → A) → Tree → A) (law : (v : ℕ → A) (a
   pub over_view : (v : ℕ → A) (bs : List Binding) (a : Atom) → map (F v) (over (applied bs) a).args ≡ map (F (λ x. F v (applied bs (Variable x)))) a.args
   over_view v bs a = map_over (F v) (F (λ x. F v (applied bs (Variable x)))) (applied bs) (λ t. ap (F v) (applied_instance bs t) ∙ law v (λ x. applied bs (Variable x)) t) a.args
 
-  raised_view : (v : ℕ → A) (n : ℕ) (a : Atom) → map (F v) (raised n a).args ≡ map (F (λ x. F v (Variable (x + n)))) a.args
+  pub raised_view : (v : ℕ → A) (n : ℕ) (a : Atom) → map (F v) (raised n a).args ≡ map (F (λ x. F v (Variable (x + n)))) a.args
   raised_view v n a = map_over (F v) (F (λ x. F v (Variable (x + n)))) (instance (λ x. Variable (x + n))) (λ t. law v (λ x. Variable (x + n)) t) a.args
 
-  head_view : (v : ℕ → A) (a : Atom) (n : ℕ) (b : Atom) (bs : List Binding) → length a.args ≡ length b.args
+  pub head_view : (v : ℕ → A) (a : Atom) (n : ℕ) (b : Atom) (bs : List Binding) → length a.args ≡ length b.args
       → AllByRecursion (λ (e : Equation). applied bs e.0 ≡ applied bs e.1) (pairs (trees a.args) (trees (raised n b).args))
       → map (F (λ x. F v (applied bs (Variable x)))) a.args ≡ map (F (λ x. F (λ y. F v (applied bs (Variable y))) (Variable (x + n)))) b.args
   head_view v a n b bs l u =

@@ -1,5 +1,6 @@
 pub mod chains
 pub mod claims
+pub mod columns
 pub mod examples
 pub mod grounds
 pub mod lists

@@ -2,3 +2,4 @@ pub mod Ackermann
 pub mod Append
 pub mod AppendChain
 pub mod Loop
+pub mod Gen

@@ -11,6 +11,7 @@
 #![tactic(auto)]
 
 mod choosing;
+mod column_descent;
 mod descent;
 mod how;
 pub mod laws;
@@ -20,8 +21,13 @@ mod stated;
 mod supports;
 mod systems;
 mod turns;
+mod worlds;
 
 pub use choosing::{is_part, number_sets};
+pub use column_descent::{
+    a_count_is_bounded, a_count_without_bound_is_stuck, a_query_over_columns_is_bounded,
+    column_proofs_show, norms_are_columns, stuck_sets_over_columns_exclude_lists, three_measures,
+};
 pub use descent::{a_query_is_bounded, proofs_show};
 pub use how::How;
 pub use replacing::{add_expressions, columns, replaced};
@@ -34,4 +40,9 @@ pub use supports::{
 pub use systems::{add_atom, system};
 pub use turns::{
     ackermann_descends, stuck_sets_exclude_lists, turns_drop_or_stick, turns_give_lists,
+};
+pub use worlds::{
+    a_query_is_bounded_in_worlds, a_query_over_columns_is_bounded_in_worlds, claims_are_facts,
+    claims_are_renumbered, claims_link, column_claims_are_facts, column_claims_link,
+    generated_queries_are_bounded, stronger_column_facts_serve, stronger_facts_serve,
 };

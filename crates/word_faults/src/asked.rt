@@ -29,7 +29,7 @@ met; 7 the search was stopped; 8 a value was too large.
 
 /// What is said of the version.
 const VERSION: &str =
-    "cti 0.3: writes and checks certificates of the versions 1, by term size, and 2, which names its norm
+    "cti 0.4: writes and checks certificates of the versions 1, by term size, and 2, which names its norm
 ";
 
 impl Asked {

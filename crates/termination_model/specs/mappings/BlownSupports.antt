@@ -4,7 +4,8 @@
 -- A row before a call that does not fit, and a blown test whether such rows are empty, blow every support. So does the
 -- solving of the support's system, and a found mapping or refutation with a number that does not fit in its check.
 --
--- This retells a procedure, and no promise on mappings rests on it.
+-- This retells a procedure. That every query that meets a mode ends does not rest on it; that no mode is missing does, but
+-- for what is blown.
 use Rattle.std.specs.Prelude.{◌≡◌, ◌==◌, ◌&&◌, ◌+◌, ℕ, ℤ, pos, Bool, true, false, List, [], ◌∷◌, ◌++◌, map, filter, take, drop, length}
 use Rattle.std.specs.List.{AllByRecursion, list_any}
 use Rattle.exact128.specs.Sums.{DotFits, entry}

@@ -1,7 +1,7 @@
 use Rattle.std.proofs.Common.{◌≡◌, ℤ, List, Option, None, Some, Ok, Err, map, sym, subst, ◌∙◌}
 use Rattle.fourier.specs.Solves.{Spells}
 use Rattle.fourier.specs.declared.fault.ElimFault.{ElimFault}
-use Rattle.fourier.specs.declared.solved.Solved.{Solved}
+use Rattle.linear_rows.specs.declared.solved.Solved.{Solved}
 use Rattle.linear_rows.specs.Plain.{plain_rows}
 use Rattle.linear_rows.specs.Solving.{Solution, solution}
 use Rattle.linear_rows.specs.Solving.Solution.{Blown, Found, Refuted}

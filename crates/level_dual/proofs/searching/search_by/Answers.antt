@@ -3,9 +3,10 @@ use Rattle.std.specs.Prelude.{All}
 use Rattle.std.specs.List.{list_any}
 use Rattle.std.proofs.lemmas.List.{length-map}
 use Rattle.call_components.specs.Numbers.{number_of}
-use Rattle.fourier.specs.Solves.{Decides, Spells}
+use Rattle.fourier.specs.Solves.{Spells}
+use Rattle.linear_rows.specs.Decides.{Decides}
 use Rattle.fourier.specs.declared.fault.ElimFault.{ElimFault}
-use Rattle.fourier.specs.declared.solved.Solved.{Solved}
+use Rattle.linear_rows.specs.declared.solved.Solved.{Solved}
 use Rattle.linear_rows.specs.Plain.{plain_rows}
 use Rattle.linear_rows.specs.Proves.{Refutes}
 use Rattle.linear_rows.specs.Rows.{IsPoint}

@@ -1,7 +1,8 @@
 use Rattle.std.proofs.Common.{◌≡◌, ◌+◌, ℕ, suc, ℤ, pos, List, IfSome, Ok, length, ap, sym, subst, ◌∙◌}
 use Rattle.std.proofs.lemmas.List.{length-map}
-use Rattle.fourier.specs.Solves.{Decides, Spells, SpellsOrBlown}
-use Rattle.fourier.specs.declared.solved.Solved.{Solved}
+use Rattle.fourier.specs.Solves.{Spells, SpellsOrBlown}
+use Rattle.linear_rows.specs.Decides.{Decides}
+use Rattle.linear_rows.specs.declared.solved.Solved.{Solved}
 use Rattle.linear_rows.specs.Plain.{plain_rows}
 use Rattle.linear_rows.specs.Rows.{IsPoint}
 use Rattle.linear_rows.specs.Showing.{bottom_row}

@@ -27,7 +27,7 @@ module _ (c : In_ok-look_under) where
     found_loop : let p = c.args.program.now in let g = c.args.goal.now in IsFound p g 100000 (clause_nodes p c.args.depth g) start c.look_under.new.path.numbers.items
     found_loop = rw is at found
 
-    goes_on : GoesOn c.args.program.now c.args.goal.now
+    goes_on : GoesOn c.args.program.now c.args.goal.now (take start c.look_under.new.path.numbers.items) (drop start c.look_under.new.path.numbers.items)
     goes_on =
         let numbers = c.look_under.new.path.numbers.items in
         loop_goes_on c.args.program.now c.args.goal.now (take start numbers) (drop start numbers) c.clauses-count.ensures.sound c.requires.goal found_loop.first.loop
@@ -64,13 +64,21 @@ returns-in-Cycle-clause-looked c =
 
 pub returns-in-Cycle-clause-goes_on : goal.returns-in-Cycle-clause-goes_on
 returns-in-Cycle-clause-goes_on c =
-    let on = goes_on (goal.at.returns-in-Cycle-clause-goes_on c).In_ok-look_under c.in-Cycle.start c.in-Cycle.is in
-    if_loop (GoesOn c.args.program.now c.args.goal.now) c.in_ok-found-in-Cycle.found on
+    let start = c.in-Cycle.start in
+    let numbers = c.look_under.new.path.numbers.items in
+    let on = goes_on (goal.at.returns-in-Cycle-clause-goes_on c).In_ok-look_under start c.in-Cycle.is in
+    if_loop (GoesOn c.args.program.now c.args.goal.now) (take start numbers) (drop start numbers) c.in_ok-found-in-Cycle.found (rw c.as_slice.ensures.value at c.in_ok-found-in-Cycle.ensures) on
 
 pub returns-in-Cycle-clause-unbounded : goal.returns-in-Cycle-clause-unbounded
 returns-in-Cycle-clause-unbounded c =
-    let on = goes_on (goal.at.returns-in-Cycle-clause-unbounded c).In_ok-look_under c.in-Cycle.start c.in-Cycle.is in
-    if_loop (Bounded c.args.program.now c.args.goal.now → ⊥) c.in_ok-found-in-Cycle.found (not_bounded c.args.program.now c.args.goal.now on)
+    let p = c.args.program.now in
+    let g = c.args.goal.now in
+    let start = c.in-Cycle.start in
+    let numbers = c.look_under.new.path.numbers.items in
+    let call = (goal.at.returns-in-Cycle-clause-unbounded c).In_ok-look_under in
+    let loop = found_loop call start c.in-Cycle.is in
+    let bounded = not_bounded p g (take start numbers) (drop start numbers) loop.first.loop.cycle (goes_on call start c.in-Cycle.is) in
+    if_loop (λ before cycle. Bounded p g → ⊥) (take start numbers) (drop start numbers) c.in_ok-found-in-Cycle.found (rw c.as_slice.ensures.value at c.in_ok-found-in-Cycle.ensures) bounded
 
 pub returns-clause-looked : goal.returns-clause-looked
 returns-clause-looked c = rw c.in-Enough.is at (found (goal.at.returns-clause-looked c).In_ok-look_under)

@@ -1,7 +1,7 @@
 use Rattle.std.proofs.Common.{suc, ◌+◌, ◌∙◌, subst, ap}
 use Rattle.linear_rows.specs.Plain.{plain_row, plain_rows}
 use Rattle.linear_rows.specs.Systems.{test_rows}
-use Rattle.fourier.specs.Solves.{Decides}
+use Rattle.linear_rows.specs.Decides.{Decides}
 use Rattle.simplex.proofs.TestLaws.{point_fails}
 use Rattle.simplex.proofs.RowLists.{long_rows}
 use Rattle.simplex.proofs.testing.held.Goals as goal

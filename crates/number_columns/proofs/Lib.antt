@@ -1,0 +1,4 @@
+pub mod CapLaws
+pub mod CellLaws
+pub mod LineLaws
+pub mod RowLaws

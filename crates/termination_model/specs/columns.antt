@@ -1,0 +1,17 @@
+pub mod Columns
+pub mod ColumnRows
+pub mod ColumnClaims
+pub mod ColumnDescent
+pub mod Measures
+pub mod MeasureLaws
+pub mod Expressions
+pub mod ColumnShort
+pub mod Count
+pub mod NormColumns
+pub mod ColumnView
+pub mod ColumnStuck
+pub mod Down
+pub mod ColumnStated
+pub mod ColumnLinking
+pub mod ColumnAnswered
+pub mod ColumnStronger
