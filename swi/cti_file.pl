@@ -131,10 +131,10 @@ answer(Source, Program, Names, Facts, Graph, Components, Predicates, Assumptions
     own_keys(Source, Own),
     modes_by_key(Names, Facts, Modes),
     first_lines(Program, Lines),
-    notes_below(Program, Source, Components, Graph, Below),
+    notes_below(Program, Source, Modes, Components, Graph, Below),
     findall(Note,
             (   member(Key, Own), get_assoc(Key, Below, Notes), member(Note, Notes)
-            ;   member(doubt(Line, Doubt), Source.doubts), Note = place(file, Line, Doubt)
+            ;   Own == [], member(doubt(Line, Doubt), Source.doubts), Note = place(file, Line, Doubt)
             ),
             Notes0),
     sort(Notes0, Notes),
@@ -223,11 +223,11 @@ first_line([], 0).
 first_line([clause(_, _, Line)|_], Line).
 
 
-%   notes_below(+Program, +Source, +Components, +Graph, -Below): the notes that
+%   notes_below(+Program, +Source, +Modes, +Components, +Graph, -Below): the notes that
 %   each key relies on, as place(Key, Line, Doubt). Components come callees
 %   first.
 
-notes_below(Program, Source, Components, Graph, Below) :-
+notes_below(Program, Source, Modes, Components, Graph, Below) :-
     findall(Key-Places,
             ( member(predicate(Key, _, Notes), Program),
               findall(place(Named, Line, Doubt),
@@ -238,7 +238,7 @@ notes_below(Program, Source, Components, Graph, Below) :-
     list_to_assoc(Pairs, Direct),
     empty_assoc(Empty),
     foldl(component_notes(Direct, Graph), Components, Empty, Below0),
-    everybodys_notes(Source, Pairs, Below0, Everywhere),
+    everybodys_notes(Source, Modes, Pairs, Below0, Everywhere),
     map_assoc(relied_on(Everywhere), Below0, Below).
 
 %   What a goal adds matters to others alone, and only where a directive calls it.
@@ -253,8 +253,10 @@ adds_clause(place(_, _, Doubt)) :-
 %   Doubts of the whole file are everybody's, and so are those of what its
 %   directives call, and those of what a goal leaves behind.
 
-everybodys_notes(Source, Direct, Below, Everywhere) :-
-    findall(place(file, Line, Doubt), member(doubt(Line, Doubt), Source.doubts), Notes0),
+everybodys_notes(Source, Modes, Direct, Below, Everywhere) :-
+    findall(place(file, Line, Doubt),
+            ( member(doubt(Line, Doubt), Source.doubts), \+ is_met(Doubt, Modes, Below) ),
+            Notes0),
     (   get_assoc(directives, Below, Left0)
     ->  include(may_last, Left0, Notes1)
     ;   Notes1 = []
@@ -264,6 +266,17 @@ everybodys_notes(Source, Direct, Below, Everywhere) :-
             Notes2),
     append([Notes0, Notes1, Notes2], Notes),
     sort(Notes, Everywhere).
+
+%   A hook that ends for all queries, and relies on nothing but that other
+%   files add no clauses that do not.
+
+is_met(hook(Key), Modes, Below) :-
+    Key = _:Name/_,
+    \+ memberchk(Name, [prolog_exception_hook, prolog_event_hook, heartbeat, exception]),
+    get_assoc(Key, Modes, Sets),
+    memberchk([], Sets),
+    get_assoc(Key, Below, Notes),
+    forall(member(place(_, _, Doubt), Notes), Doubt == multifile).
 
 %   A doubt of whether something ends, once it has ended, leaves nothing behind.
 
@@ -565,7 +578,7 @@ assumption_text(risk(grows, PI), Text) :-
     format(string(Text), "~q goes through a table: what it goes through does not grow meanwhile", [PI]).
 assumption_text(directive(Doubt), Text) :-
     assumption_text(Doubt, Text0),
-    format(string(Text), "in this directive, ~s, and so does what it leaves behind", [Text0]).
+    format(string(Text), "in this directive, ~s; what it leaves behind ends too", [Text0]).
 assumption_text(lasting(What), Text) :-
     format(string(Text), "~q may have goals run, or other clauses called, later: these end", [What]).
 assumption_text(hook(PI), Text) :-

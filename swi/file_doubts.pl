@@ -143,7 +143,8 @@ file_doubt(_, Clauses, Line, hook(Module:PI)) :-
     Body \== true,
     called_by_the_system(PI, Modules),
     memberchk(Module, Modules),
-    \+ other_message(Head).
+    \+ other_message(Head),
+    \+ other_exception(Head).
 
 searches_libraries(file_search_path, Head) :-
     arg(1, Head, Alias),
@@ -159,8 +160,15 @@ called_by_the_system(prolog_event_hook/1, [user, prolog]).
 called_by_the_system(prolog_trace_interception/4, [user, prolog]).
 called_by_the_system(heartbeat/0, [prolog]).
 called_by_the_system(tripwire/2, [prolog]).
-called_by_the_system(cancel_halt/1, [user, prolog]).
+called_by_the_system(exception/3, [user]).
+called_by_the_system(term_expansion/2, [user, system]).
+called_by_the_system(term_expansion/4, [user, system]).
+called_by_the_system(goal_expansion/2, [user, system]).
+called_by_the_system(goal_expansion/4, [user, system]).
 called_by_the_system(prolog_load_file/2, [user]).
+called_by_the_system(open_source_hook/3, [prolog]).
+called_by_the_system(comment_hook/3, [prolog]).
+called_by_the_system(rename_predicate/2, [prolog]).
 called_by_the_system(prolog_file_type/2, [user]).
 called_by_the_system(message_hook/3, [user]).
 called_by_the_system(thread_message_hook/3, [user]).
@@ -181,6 +189,11 @@ other_message(Head) :-
     ;   Kind = Message
     ),
     \+ memberchk(Kind, [autoload, load_file, abnormal_thread_termination, silent]).
+
+%   Where a global variable is not defined, those that ask for it call the hook.
+
+other_exception(exception(Kind, _, _)) :-
+    Kind == undefined_global_variable.
 
 message_argument(message_hook/3, 1).
 message_argument(thread_message_hook/3, 1).

@@ -349,6 +349,7 @@ risk(PI, runs) :-
 option_list(write_term(_, Options), Options).
 option_list(write_term(_, _, Options), Options).
 option_list(write_length(_, _, Options), Options).
+option_list(term_string(_, _, Options), Options).
 option_list(thread_create(_, _, Options), Options).
 
 %!  option_goal(?Option, -Goal) is semidet.
@@ -510,17 +511,19 @@ flags(tabling,
         table_shared ]).
 flags(printing, [print_write_options, write_attributes]).
 flags(none,
-      [ access_level, agc_margin, agc_close_streams, answer_format, answer_write_options, argv, autoload, bounded, c_cc, c_cflags,
-        c_ldflags, c_libplso, c_libs, color_term, debug, debug_on_error, debug_on_interrupt, debug_term_position,
+      [ access_level, agc_margin, agc_close_streams, answer_format, answer_write_options, argv, associated_file, autoload, bounded,
+        c_cc, c_cflags, c_ldflags, c_libplso, c_libs, color_term, cpu_count, debug, debug_on_error, debug_on_interrupt, debug_term_position,
         debugger_show_context, debugger_write_options, determinism_error, editor, emacs_inferior_process, emulated_dialect,
         encoding,
-        error_ambiguous_stream_pair, file_name_variables, file_search_cache_time, fileerrors, float_overflow, float_rounding,
+        error_ambiguous_stream_pair, file_name_case_handling, file_name_variables, file_search_cache_time, fileerrors, float_overflow, float_rounding,
         float_undefined, float_underflow, float_zero_div, gc, gc_thread, generate_debug_info, hide, history,
-        integer_rounding_function, last_call_optimisation, max_rational_size, max_rational_size_action, message_context,
-        message_language, mitigate_spectre, occurs_check, on_error, on_warning, optimise, optimise_debug, optimise_unify, packs,
+        integer_rounding_function, last_call_optimisation, malloc, max_rational_size, max_rational_size_action, message_context,
+        message_language, mitigate_spectre, occurs_check, on_error, on_warning, optimise, optimise_debug, optimise_unify, os_argv, packs, pipe,
+        posix_shell,
         prefer_rationals, prompt_alternatives_on, protect_static_code, qcompile, query_debug_settings, readline, report_error,
-        sandboxed_load, shared_table_space, shift_check, signals, stack_limit, stream_type_check, table_space, tmp_dir,
-        timezone, toplevel_extra_white_line, toplevel_goal, toplevel_list_wfs_residual_program, toplevel_mode,
+        res_keep_foreign,
+        sandboxed_load, shared_table_space, shift_check, signals, stack_limit, stream_type_check, table_space, test_options,
+        threads, tmp_dir, timezone, toplevel_extra_white_line, toplevel_goal, toplevel_list_wfs_residual_program, toplevel_mode,
         toplevel_name_variables, toplevel_print_anon, toplevel_print_factorized, toplevel_prompt, toplevel_residue_vars,
         toplevel_var_size, trace_gc, tty_control, unknown, unload_foreign_libraries, user_flags, verbose, verbose_autoload,
         verbose_file_search, verbose_load, vmi_builtin, warn_override_implicit_import, xpce, xref ]).
@@ -537,7 +540,9 @@ hooks(PI, Hooks) :-
     findall(Hook, ( member(Kind, Kinds), hook(Kind, Hook) ), Hooks).
 
 hooks_of([print, attributes], [portray_clause/1, portray_clause/2, listing/0, listing/1]).
-hooks_of([print], [print/1, print/2, write_term/2, write_term/3, write_length/3, format/1, format/2, format/3, writeln/1, writeln/2, ansi_format/3]).
+hooks_of([print],
+         [ print/1, print/2, write_term/2, write_term/3, write_length/3, term_string/3, format/1, format/2, format/3, writeln/1,
+           writeln/2, ansi_format/3 ]).
 hooks_of([print, message], [print_message/2, print_message_lines/3, message_to_string/2, version/1, license/1, license/2]).
 hooks_of([print, message, debug], [debug/3]).
 hooks_of([print, message, failed], [assertion/1]).

@@ -310,7 +310,8 @@ plain_goal(G, Context, P) -->
     ).
 
 directive_goal(G, Where, Context, P) -->
-    (   { is_harmless_directive(G) }
+    (   { is_harmless_directive(G),
+          \+ ( Where = unknown(M:_), M \== none ) }
     ->  { P = true }
     ;   { G = initialization(G1) ; G = initialization(G1, _) }
     ->  goal(G1, Context, P)
@@ -628,7 +629,11 @@ builtin(system, G, Context, true) -->
     { functor(G, Name, Arity),
       risk(Name/Arity, Risk) },
     !,
-    note(Context, risk(Risk, Name/Arity)).
+    note(Context, risk(Risk, Name/Arity)),
+    (   { Risk == imports, \+ names_import(G) }
+    ->  note(Context, lasting(Name))
+    ;   []
+    ).
 builtin(Where, G, Context, P) -->
     { results(Where, G, Xs) ; is_quiet(Where, G), Xs = [] },
     !,
@@ -649,6 +654,14 @@ builtin(Where, G, Context, P) -->
 builtin(_, G, Context, true) -->
     { functor(G, Name, Arity) },
     note(Context, external(system:Name/Arity)).
+
+%   What is imported for good, and from where, stands in the text.
+
+names_import(import(Import)) :-
+    ground(Import).
+names_import(add_import_module(Module, _, _)) :-
+    atom(Module).
+names_import(set_base_module(_)).
 
 result(X, P0, P) :-
     pure_term(X, Y),

@@ -431,7 +431,8 @@ names_what_it_changes(Goal, State) :-
 changes_reading(Goal) :-
     compound(Goal),
     compound_name_arity(Goal, Name, Arity),
-    (   memberchk(Name/Arity, [op/3, set_prolog_flag/2, create_prolog_flag/3, add_import_module/3, set_base_module/1])
+    (   memberchk(Name/Arity, [op/3, set_prolog_flag/2, create_prolog_flag/3, add_import_module/3, set_base_module/1,
+                              redefine_system_predicate/1])
     ->  true
     ;   Goal = prolog_load_context(Key, _)
     ->  \+ Key \= stream
@@ -459,6 +460,10 @@ may_run(Term, Line, Goal, State0-Items, State-Rest) :-
         ->  flag_items(Term, Kind, Item, Line, Items, Rest)
         ;   Items = Rest
         ),
+        State = State0
+    ;   Goal = redefine_system_predicate(_)
+    ->  Goal = redefine_system_predicate(Specs),
+        declared_items(redefined, Specs, State0.module, State0.put(conditions, [maybe]), Items, Rest),
         State = State0
     ;   obeyed(Goal, Line, none, State0, State, Items, Rest)
     ->  true

@@ -293,5 +293,412 @@ case(wrapper, p/1, lasting(wrap_predicate),
 loop :- loop.\n\
 p(1).\n\
 :- wrap_predicate(p(_), t, W, (loop, W)).\n").
+case(load_stream_body, p/0, lasting(load_files),
+     "q(a).\n\
+i :- open_string(\"q(X) :- q(X).\", S), load_files(user:foo, [stream(S)]).\n\
+p :- q(a).\n").
+case(swallow, p/1, flags,
+     ":- prolog_load_context(stream, S), read(S, _).\n\
+append(_, _, _).\n\
+p(X) :- append(_, X, _), fail.\n").
+case(assert_shadow, p/0, asserts,
+     "c((append(X, Y, Z) :- append(X, Y, Z))).\n\
+:- c(C), assertz(C).\n\
+p :- append([], [], _).\n").
+case(assert_shadow_body, p/0, shadows(append/3),
+     "c((append(X, Y, Z) :- append(X, Y, Z))).\n\
+i :- c(C), assertz(C).\n\
+p :- append([], [], _).\n").
+case(alarm, p/0, lasting(alarm),
+     ":- use_module(library(time)).\n\
+i :- alarm(0.2, l, _, [remove(true)]).\n\
+l :- l.\n\
+p :- sleep(1).\n").
+case(string_assert, p/1, adds,
+     ":- dynamic q/1.\n\
+i :- term_to_atom(G, 'assertz((q(X) :- q(X)))'), call(G).\n\
+p(X) :- q(X).\n").
+case(exp_autoload, p/0, hook(user:term_expansion/2),
+     "p :- pairs_keys([a-b], _).\n\
+:- multifile user:term_expansion/2.\n\
+:- dynamic user:term_expansion/2.\n\
+user:term_expansion((:- module(pairs, _)), _) :- l.\n\
+l :- l.\n").
+case(open_source2, p/0, hook(prolog:open_source_hook/3),
+     ":- multifile prolog:open_source_hook/3.\n\
+prolog:open_source_hook(A, B, C) :- l(A, B, C).\n\
+l(A, B, C) :- l(A, B, C).\n\
+p :- pairs_keys([a-b], _).\n").
+case(comment_hook, p/0, hook(prolog:comment_hook/3),
+     ":- multifile prolog:comment_hook/3.\n\
+prolog:comment_hook(A, B, C) :- l(A, B, C).\n\
+l(A, B, C) :- l(A, B, C).\n\
+p :- pairs_keys([a-b], _).\n").
+case(rename_pred, p/0, hook(prolog:rename_predicate/2),
+     ":- multifile prolog:rename_predicate/2.\n\
+prolog:rename_predicate(A, B) :- l(A, B).\n\
+l(A, B) :- l(A, B).\n\
+p :- pairs_keys([a-b], _).\n").
+case(undef_proc_builtin, p/0, hook(user:exception/3),
+     ":- multifile user:exception/3.\n\
+:- dynamic user:exception/3.\n\
+user:exception(undefined_predicate, _, _) :- l.\n\
+l :- l.\n\
+q :- fail.\n\
+p :- current_predicate(zork/0), fail.\n\
+p :- pairs_keys([a-b], _).\n").
+case(mod_import, p/0, lasting(import),
+     ":- module(m, [p/0, i/0]).\n\
+i :- M = n, M:export(M:append/3), import(M:append/3).\n\
+n:append(X, Y, Z) :- n:append(X, Y, Z).\n\
+p :- append([], [], _).\n").
+case(redefine_call, p/0, no_mode,
+     ":- catch(redefine_system_predicate(atom_length(_, _)), _, true).\n\
+atom_length(X, Y) :- atom_length(X, Y).\n\
+p :- atom_length(a, _).\n").
+case(print_flag_body, p/0, options,
+     "i :- set_prolog_flag(print_write_options, [portray(true), portray_goal(pg)]).\n\
+p :- format(\"~p\", [f(x)]).\n\
+pg(A, B) :- pg(A, B).\n").
+case(print_flag_body2, p/0, options,
+     "i :- F = print_write_options, set_prolog_flag(F, [portray(true), portray_goal(pg)]).\n\
+p :- print(f(x)).\n\
+pg(A, B) :- pg(A, B).\n").
+case(opts_appended, p/0, options,
+     "p :- append([portray_goal(pg)], [], O), write_term(f(x), O).\n\
+pg(A, B) :- pg(A, B).\n").
+case(opts_eq, p/0, no_mode,
+     "p :- write_term(f(x), [portray_goal=pg]).\n\
+pg(A, B) :- pg(A, B).\n").
+case(opts_module, p/0, no_mode,
+     ":- module(mm, [p/0]).\n\
+p :- write_term(f(x), [quoted(true), portray_goal(mm:pg)]).\n\
+pg(A, B) :- pg(A, B).\n").
+case(at_exit_partial, p/0, options,
+     "p :- q(T), thread_create(true, Id, [detached(false)|T]), thread_join(Id, _).\n\
+q([at_exit(l)]).\n\
+l :- l.\n").
+case(format_star, p/0, text,
+     "p :- format(\"~t~*|~@\", [10, l]).\n\
+l :- l.\n").
+case(format_backquote, p/0, text,
+     "p :- format(\"~`-t~30|~@\", [l]).\n\
+l :- l.\n").
+case(format_codes, p/0, text,
+     "p :- format([0'~, 0'@], [l]).\n\
+l :- l.\n").
+case(format_chars, p/0, text,
+     "p :- format(['~', '@'], [l]).\n\
+l :- l.\n").
+case(format_atom_sink, p/0, text,
+     "p :- format(atom(_), '~@', [l]).\n\
+l :- l.\n").
+case(msg_own_lines, p/0, text,
+     ":- multifile prolog:message//1.\n\
+prolog:message(foo) --> ['~@'-[user:l]].\n\
+p :- print_message(error, foo).\n\
+l :- l.\n").
+case(msg_own_lines2, p/0, text,
+     ":- multifile prolog:message//1.\n\
+prolog:message(foo) --> { t(T) }, [T-[user:l]].\n\
+t('~@').\n\
+p :- print_message(error, foo).\n\
+l :- l.\n").
+case(init_listen, p/0, lasting(prolog_listen),
+     ":- dynamic q/1.\n\
+:- initialization(i).\n\
+i :- prolog_listen(q/1, cb).\n\
+cb(A, B) :- cb(A, B).\n\
+p :- assertz(q(a)).\n").
+case(dir_forall_assert, p/1, no_mode,
+     ":- dynamic q/1.\n\
+:- forall(member(X, [1, 2]), assertz((q(X) :- q(X)))).\n\
+p(X) :- q(X).\n").
+case(dir_maplist_assert, p/1, adds,
+     ":- dynamic q/1.\n\
+c((q(X) :- q(X))).\n\
+:- findall(C, c(C), L), maplist(assertz, L).\n\
+p(X) :- q(X).\n").
+case(load_hook, p/0, hook(user:prolog_load_file/2),
+     ":- multifile user:prolog_load_file/2.\n\
+:- dynamic user:prolog_load_file/2.\n\
+user:prolog_load_file(X, Y) :- l(X, Y).\n\
+l(X, Y) :- l(X, Y).\n\
+p :- sumlist([1], _), subtract([], [], _).\n").
+case(msg_silent2, p/0, hook(user:message_hook/3),
+     ":- multifile user:message_hook/3.\n\
+:- dynamic user:message_hook/3.\n\
+user:message_hook(_, silent, _) :- l.\n\
+l :- l.\n\
+p :- pairs_keys([a-b], _).\n").
+case(msg_message2, p/0, hook(prolog:message/3),
+     ":- multifile prolog:message//1.\n\
+prolog:message(X) --> l(X).\n\
+l(X) --> l(X).\n\
+p :- pairs_keys([a-b], _).\n").
+case(msg_property2, p/0, hook(user:message_property/2),
+     ":- multifile user:message_property/2.\n\
+user:message_property(silent, stream(_)) :- l.\n\
+l :- l.\n\
+p :- pairs_keys([a-b], _).\n").
+case(search2, p/0, libraries,
+     ":- multifile user:file_search_path/2.\n\
+:- dynamic user:file_search_path/2.\n\
+p :- pairs_keys([a-b], _).\n\
+user:file_search_path(library, _) :- l.\n\
+l :- l.\n").
+case(search_assert, p/0, libraries,
+     "i :- asserta((user:file_search_path(A, _) :- A == library, l)).\n\
+p :- pairs_keys([a-b], _).\n\
+l :- l.\n").
+case(libdir, p/0, libraries,
+     "i :- asserta((user:library_directory(_) :- l)).\n\
+p :- pairs_keys([a-b], _).\n\
+l :- l.\n").
+case(exc_hook_assert, p/0, hook(user:prolog_exception_hook/4),
+     "i :- asserta((user:prolog_exception_hook(_, _, _, _) :- l)).\n\
+l :- l.\n\
+p :- catch(atom_length(_, _), _, true).\n").
+case(flag_create, p/1, no_mode,
+     ":- create_prolog_flag(double_quotes, codes, []).\n\
+p(X) :- X = \"ab\", q(X).\n\
+q([_|_]) :- q([a]).\n\
+q(a).\n").
+case(flags_var_value, p/1, no_mode,
+     "v(codes).\n\
+:- v(V), set_prolog_flag(double_quotes, V).\n\
+p(X) :- X = \"ab\", q(X).\n\
+q([_|_]) :- q([a]).\n\
+q(a).\n").
+case(char_conv, p/0, flags,
+     ":- set_prolog_flag(char_conversion, true).\n\
+:- char_conversion(b, a).\n\
+b :- a.\n\
+p :- b.\n").
+case(on_signal, p/0, lasting(on_signal),
+     "i :- on_signal(usr1, _, h).\n\
+h(S) :- h(S).\n\
+p :- current_prolog_flag(pid, P), format(atom(C), \"kill -USR1 ~w\", [P]), shell(C), sleep(0.3), true.\n").
+case(thread_init, p/0, lasting(thread_initialization),
+     ":- thread_initialization(i).\n\
+i :- thread_self(main), !.\n\
+i :- i.\n\
+p :- thread_create(true, Id), thread_join(Id).\n").
+case(rec_frozen, p/0, kept(recorded/2),
+     "i :- freeze(X, l(X)), recorda(k, X).\n\
+l(X) :- l(X).\n\
+p :- recorded(k, Y), Y = a.\n").
+case(queue_frozen, p/0, kept(thread_peek_message/1),
+     "i :- freeze(X, l(X)), thread_self(Me), thread_send_message(Me, X).\n\
+l(X) :- l(X).\n\
+p :- thread_peek_message(Y), Y = a.\n").
+case(trie_frozen, p/0, kept(trie_gen/3),
+     "i :- freeze(X, l(X)), trie_new(T), trie_insert(T, a, X), nb_setval(t, T).\n\
+l(X) :- l(X).\n\
+p :- nb_getval(t, T), trie_gen(T, a, Y), Y = a.\n").
+case(on_error_halt, p/0, halts,
+     ":- at_halt(l).\n\
+:- set_prolog_flag(on_error, halt).\n\
+l :- l.\n\
+p :- print_message(error, format(\"x\", [])).\n").
+case(table_lattice_call, p/1, no_mode,
+     ":- table q(_, lattice(j(_, _, _))).\n\
+q(a, 1).\n\
+q(a, 2).\n\
+j(A, B, C) :- j(A, B, C).\n\
+p(X) :- q(a, X).\n").
+case(table_module_lattice, p/1, no_mode,
+     ":- table q(_, lattice(user:j/3)).\n\
+q(a, 1).\n\
+q(a, 2).\n\
+j(A, B, C) :- j(A, B, C).\n\
+p(X) :- q(a, X).\n").
+case(attr_portray, p/0, no_mode,
+     "p :- put_attr(X, mm, v), write_term(f(X), [attributes(portray)]).\n\
+mm:attr_portray_hook(A, B) :- mm:attr_portray_hook(A, B).\n").
+case(mod_base, p/0, lasting(set_module),
+     ":- module(m, [p/0, i/0]).\n\
+i :- B = base(n), set_module(m:B).\n\
+n:forall(X, Y) :- n:forall(X, Y).\n\
+p :- forall(a, b).\n\
+a.\n\
+b.\n").
+case(wrap_system, p/0, lasting('$wrap_predicate'),
+     "i :- '$wrap_predicate'(user:q, w, _, W, (l, W)).\n\
+q.\n\
+l :- l.\n\
+p :- q.\n").
+case(tflag_body, q/1, tabled,
+     "i :- set_prolog_flag(max_table_subgoal_size_action, abstract), set_prolog_flag(max_table_subgoal_size, 3).\n\
+:- table q/1.\n\
+q(0).\n\
+q(s(X)) :- q(X).\n").
+case(tflag_var, q/1, tabled,
+     "i :- member(F-V, [max_table_subgoal_size_action-abstract, max_table_subgoal_size-3]), set_prolog_flag(F, V), fail.\n\
+i.\n\
+:- table q/1.\n\
+q(0).\n\
+q(s(X)) :- q(X).\n").
+case(cyc_if, p/1, cyclic,
+     "p(X) :- ( X = f(X) -> p(X) ; true ).\n").
+case(cyc_two, p/0, cyclic,
+     "p :- q(X, f(X)), p.\n\
+q(X, X).\n").
+case(cyc_deep, p/0, cyclic,
+     "p :- q(X, f(X)), p.\n\
+q(X, Y) :- r(X, Y).\n\
+r(X, X).\n").
+case(grow_blob, p/0, risk(grows, current_blob/2),
+     "p :- current_blob(B, text), atom_concat(B, x, C), nb_setval(C, 1), fail.\n").
+case(mono2, p/0, lasting(monotonic),
+     ":- dynamic([d/1], [monotonic(true)]).\n\
+:- table t/1 as monotonic.\n\
+t(X) :- d(Y), l(Y, X).\n\
+l(Y, X) :- l(Y, X).\n\
+p :- assertz(d(a)).\n").
+case(mod_add_import, p/0, inherits,
+     ":- module(m, [p/0, i/0]).\n\
+i :- add_import_module(m, n, start).\n\
+n:forall(X, Y) :- n:forall(X, Y).\n\
+p :- forall(a, b).\n\
+a.\n\
+b.\n").
 
 :- end_tests(no_wrong_mode).
+
+:- begin_tests(rules).
+
+% Each built-in predicate of the running system that takes a goal is searched or
+% doubted: where the goal runs for ever, the caller has no mode or an
+% assumption.
+
+takes_goal(Name/Arity, Specs) :-
+    predicate_property(system:Goal, built_in),
+    predicate_property(system:Goal, meta_predicate(Head)),
+    Head =.. [Name|Specs],
+    \+ sub_atom(Name, 0, _, _, $),
+    length(Specs, Arity),
+    once(( member(Spec, Specs), extra_arguments(Spec, _) )).
+
+%   How many arguments are added to a goal.
+
+extra_arguments(Spec, Count) :-
+    nonvar(Spec),
+    (   integer(Spec)
+    ->  Count = Spec
+    ;   Spec == (^)
+    ->  Count = 0
+    ;   Spec == (//)
+    ->  Count = 2
+    ).
+
+goal_argument(Index, I, Spec, Argument) :-
+    (   I == Index
+    ->  Argument = loop
+    ;   extra_arguments(Spec, _)
+    ->  Argument = true
+    ;   Argument = []
+    ).
+
+%   A goal with `loop` in the place Index, and the arity that loop is called with.
+
+goal_with_loop(Name, Specs, Index, Goal, LoopArity) :-
+    nth1(Index, Specs, Spec),
+    extra_arguments(Spec, LoopArity),
+    findall(Argument, ( nth1(I, Specs, S), goal_argument(Index, I, S, Argument) ), Arguments),
+    Goal =.. [Name|Arguments].
+
+test(goals_of_built_in_predicates, [forall(( takes_goal(Name/_, Specs), goal_with_loop(Name, Specs, _, Goal, LoopArity) )), true]) :-
+    functor(Loop, loop, LoopArity),
+    format(string(Text), "p :- ~q.~n~q :- ~q.~n", [Goal, Loop, Loop]),
+    with_file(Text, File, cti_file_modes(File, Modes, Assumptions, [check(false)])),
+    memberchk(p/0-Sets, Modes),
+    (   Sets == []
+    ->  true
+    ;   Assumptions = [_|_]
+    ).
+
+% The same of options: SWI-Prolog's library has the types of those of its
+% built-in predicates.
+
+goal_option(PI, Option) :-
+    option_declaration(Declaring, Options),
+    member(Declared, Options),
+    Declared =.. [Option, Type],
+    (   Type == callable
+    ;   nonvar(Type), Type = callable+_
+    ),
+    takes_options_of(PI, Declaring).
+
+takes_options_of(PI, PI).
+takes_options_of(PI, Declaring) :-
+    option_declaration(PI, Options),
+    memberchk(pass_to(system:Declaring, _), Options).
+
+option_declaration(PI, Options) :-
+    absolute_file_name(library(dialect/swi/syspred_options), File, [file_type(prolog), access(read)]),
+    read_file_to_terms(File, Terms, [encoding(utf8)]),
+    member((:- predicate_options(system:PI, _, Options)), Terms).
+
+test(options_that_hold_goals) :-
+    findall(PI-Option, goal_option(PI, Option), Pairs0),
+    sort(Pairs0, Pairs),
+    memberchk((write_term/2)-portray_goal, Pairs),
+    memberchk((thread_create/3)-at_exit, Pairs),
+    forall(member(PI-Option, Pairs), searched_option(PI, Option)).
+
+searched_option(Name/Arity, Option) :-
+    functor(Goal, Name, Arity),
+    Term =.. [Option, _],
+    (   real_builtins:option_list(Goal, _),
+        real_builtins:option_goal(Term, _)
+    ->  true
+    ;   \+ real_builtins:is_quiet(system, Goal),
+        \+ real_builtins:rewritten(system, Goal, _)
+    ).
+
+% What is quiet takes no goal, whatever stands in a table.
+
+test(quiet_by_name, [forall(( real_builtins:quiet(system, Names), member(Name/Arity, Names) )), true]) :-
+    functor(Goal, Name, Arity),
+    \+ real_builtins:has_goal_argument(Goal).
+
+% Flags of the running system are known by name, but for those that say what it
+% is.
+
+test(flags_known_by_name, Unknown == []) :-
+    findall(Flag,
+            ( current_prolog_flag(Flag, _),
+              catch(( current_prolog_flag(Flag, Value), set_prolog_flag(Flag, Value) ), _, fail),
+              real_builtins:flag_kind(Flag, running),
+              \+ memberchk(Flag, [heartbeat, compile_meta_arguments, colon_sets_calling_context, portable_vmi]) ),
+            Unknown0),
+    sort(Unknown0, Unknown).
+
+% Directives that only declare leave no assumption.
+
+test(harmless_directives, Assumptions == []) :-
+    with_file(":- module(m, [p/1]).\n:- use_module(library(lists)).\n:- autoload(library(apply), [maplist/2]).\n\
+:- use_foreign_library(foreign(process)).\n:- dynamic d/1.\n:- discontiguous p/1.\n:- meta_predicate q(0).\n:- op(700, xfx, ===>).\n\
+:- set_prolog_flag(generate_debug_info, false).\n:- set_prolog_flag(my_own, 1).\n:- create_prolog_flag(my_flag, true, [keep(true)]).\n\
+:- set_prolog_flag(double_quotes, codes).\n:- style_check(-singleton).\n:- license(gpl).\n:- initialization(main, main).\n\
+:- predicate_options(p/1, 1, [a(integer)]).\n:- use_module(library(settings)).\n:- setting(a, integer, 1, 'A').\n:- debug(x).\n\
+:- nb_setval(k, 1).\n:- assertz(d(1)).\n:- retractall(d(2)).\n:- format(\"loading~n\").\n\
+:- public p/1.\n:- table t/1.\nt(_).\np([]).\np([_|T]) :- p(T).\nq(_).\nmain :- current_prolog_flag(argv, A), go(A).\ngo(A) :- call(A).\n",
+              File, cti_file_modes(File, Modes, Assumptions0, [check(false)])),
+    memberchk(p/1-[[1]], Modes),
+    findall(Assumption,
+            ( member(Assumption, Assumptions0), Assumption = assumed(_, _, _, Dependents), memberchk(p/1, Dependents) ),
+            Assumptions).
+test(options_that_are_known, Assumptions == []) :-
+    with_file("p(X) :- write_term(X, [quoted(true), max_depth(3)]), format(\"~a ~W~n\", [a, X, [quoted(true)]]).\n", File,
+              cti_file_modes(File, [p/1-[[]]], Assumptions, [check(false)])).
+test(hook_that_ends, Assumptions == []) :-
+    with_file(":- multifile user:message_hook/3.\nuser:message_hook(T, K, _) :- K == silent, T = x.\np(a).\n", File,
+              cti_file_modes(File, Modes, Assumptions0, [check(false)])),
+    memberchk(p/1-[[]], Modes),
+    findall(Assumption,
+            ( member(Assumption, Assumptions0), Assumption = assumed(_, _, _, Dependents), memberchk(p/1, Dependents) ),
+            Assumptions).
+
+:- end_tests(rules).
