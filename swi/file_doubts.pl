@@ -102,6 +102,7 @@ lasts('$add_clause').
 lasts('$set_predicate_attribute').
 lasts(on_signal).
 lasts(prolog_alert_signal).
+lasts(thread_signal).
 lasts(thread_initialization).
 lasts(register_iri_scheme).
 lasts(autoload_path).
@@ -121,6 +122,16 @@ file_doubts(Items, Clauses, Doubts) :-
 file_doubt(Items, _, Line, lasting(Name)) :-
     mentioned_in(Items, Line, Name),
     lasts(Name).
+file_doubt(Items, _, Line, lasting(Name)) :-
+    member(raw(Line, Term), Items),
+    sub_term(Text, Term),
+    (   atom(Text)
+    ;   string(Text)
+    ),
+    once(sub_string(Text, _, _, _, "(")),
+    lasts(Name),
+    string_concat(Name, "(", Start),
+    once(sub_string(Text, _, _, _, Start)).
 file_doubt(Items, _, Line, lasting(monotonic)) :-
     member(directive(Line, _, Directive), Items),
     nonvar(Directive),

@@ -543,7 +543,8 @@ hooks_of([print, attributes], [portray_clause/1, portray_clause/2, listing/0, li
 hooks_of([print],
          [ print/1, print/2, write_term/2, write_term/3, write_length/3, term_string/3, format/1, format/2, format/3, writeln/1,
            writeln/2, ansi_format/3 ]).
-hooks_of([print, message], [print_message/2, print_message_lines/3, message_to_string/2, version/1, license/1, license/2]).
+hooks_of([print, message], [print_message/2, print_message_lines/3, message_to_string/2, license/1, license/2]).
+hooks_of([print, message, version], [version/0, version/1]).
 hooks_of([print, message, debug], [debug/3]).
 hooks_of([print, message, failed], [assertion/1]).
 hooks_of([files], [absolute_file_name/2, absolute_file_name/3, exists_source/1, exists_source/2, expand_file_search_path/2,
@@ -580,6 +581,7 @@ hook(print, user:portray_attvar/1).
 hook(print, _:attr_portray_hook/2).
 hook(attributes, _:attribute_goals/3).
 hook(message, prolog:console_color/2).
+hook(version, prolog:version_msg/1).
 
 %!  is_read_library(?Module) is nondet.
 %

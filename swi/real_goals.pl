@@ -306,8 +306,21 @@ plain_goal(G, Context, P) -->
     { resolved(G, Context, Where) },
     (   { Context.directive == yes, Where \= own(_) }
     ->  directive_goal(G, Where, Context, P)
+    ;   { shadowing(Where, G, Context, Predicate) }
+    ->  goal_of(Where, G, Context, P0),
+        call_of(Predicate, Context.main, G, Context, P1),
+        { either(P0, P1, P) }
     ;   goal_of(Where, G, Context, P)
     ).
+
+%   shadowing(+Where, +Goal, +Context, -Predicate): the file has clauses for a
+%   predicate of the module system, which are refused unless it is redefined.
+
+shadowing(builtin, G, Context, system:Name/Arity) :-
+    Context.module \== system,
+    functor(G, Name, Arity),
+    is_defined(Context.main, system:Name/Arity),
+    \+ is_kept(G, Context).
 
 directive_goal(G, Where, Context, P) -->
     (   { is_harmless_directive(G),
@@ -345,7 +358,9 @@ note(Context, Doubt) -->
 %   A goal that the file rewrites when it is loaded.
 
 rewritten_goal(G, Context) -->
-    (   { member(expansion(goal, Pattern), Context.source.expansions),
+    (   { Context.directive == yes, is_harmless_directive(G) }
+    ->  []
+    ;   { member(expansion(goal, Pattern), Context.source.expansions),
           \+ G \= Pattern }
     ->  note(Context, rewritten)
     ;   []
@@ -653,7 +668,11 @@ builtin(Where, G, Context, P) -->
       both(P01, P2, P) }.
 builtin(_, G, Context, true) -->
     { functor(G, Name, Arity) },
-    note(Context, external(system:Name/Arity)).
+    note(Context, external(system:Name/Arity)),
+    (   { G = table(Specs), var(Specs) }
+    ->  note(Context, lasting(table))
+    ;   []
+    ).
 
 %   What is imported for good, and from where, stands in the text.
 
@@ -694,11 +713,12 @@ text_note(G, Context) -->
         ;   { format_options(G, Text, Options) }
         ->  find_options(Options, Context)
         ;   note(Context, text)
-        ),
-        (   { Context.main.letters == yes }
-        ->  note(Context, letter)
-        ;   []
         )
+    ;   []
+    ),
+    (   { Context.main.letters == yes,
+          ( format_text(G, _) ; prints(G) ) }
+    ->  note(Context, letter)
     ;   []
     ).
 

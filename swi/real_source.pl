@@ -431,8 +431,9 @@ names_what_it_changes(Goal, State) :-
 changes_reading(Goal) :-
     compound(Goal),
     compound_name_arity(Goal, Name, Arity),
-    (   memberchk(Name/Arity, [op/3, set_prolog_flag/2, create_prolog_flag/3, add_import_module/3, set_base_module/1,
-                              redefine_system_predicate/1])
+    (   memberchk(Name/Arity, [op/3, set_prolog_flag/2, create_prolog_flag/3, add_import_module/3, set_base_module/1])
+    ->  true
+    ;   nested_declaration(Goal, _, _)
     ->  true
     ;   Goal = prolog_load_context(Key, _)
     ->  \+ Key \= stream
@@ -446,6 +447,12 @@ changes_reading(Goal) :-
         loading(Goal, Spec, _),
         \+ ( Name == autoload, atom(Spec) )        % an option
     ).
+
+%   A declaration that a goal makes may be made or not.
+
+nested_declaration(Goal, Kind, Specs) :-
+    declaration(Goal, Kind, Specs),
+    memberchk(Kind, [tabled, meta, arithmetic, redefined, transparent]).
 
 may_run(Term, Line, Goal, State0-Items, State-Rest) :-
     (   Goal = prolog_load_context(_, _)        % it may read more of the text
@@ -461,9 +468,12 @@ may_run(Term, Line, Goal, State0-Items, State-Rest) :-
         ;   Items = Rest
         ),
         State = State0
-    ;   Goal = redefine_system_predicate(_)
-    ->  Goal = redefine_system_predicate(Specs),
-        declared_items(redefined, Specs, State0.module, State0.put(conditions, [maybe]), Items, Rest),
+    ;   nested_declaration(Goal, Kind, Specs)
+    ->  (   var(Specs), Kind \== tabled, Kind \== arithmetic
+        ->  functor(Goal, Name, _),
+            Items = [doubt(Line, lasting(Name))|Rest]
+        ;   declared_items(Kind, Specs, State0.module, State0.put(conditions, [maybe]), Items, Rest)
+        ),
         State = State0
     ;   obeyed(Goal, Line, none, State0, State, Items, Rest)
     ->  true
@@ -503,6 +513,8 @@ obeyed(module(Module, Exports, _), Line, In, State0, State, Items, Rest) :-
 obeyed('$set_source_module'(Module), _, _, State0, State, Rest, Rest) :-
     atom(Module),
     State = State0.put(_{module:Module, file_module:Module}).
+obeyed('$set_source_module'(Module), Line, _, State, State, [doubt(Line, flags)|Rest], Rest) :-
+    var(Module).
 obeyed('$set_source_module'(_, Module), Line, In, State0, State, Items, Rest) :-
     obeyed('$set_source_module'(Module), Line, In, State0, State, Items, Rest).
 obeyed(op(P, T, N), _, _, State, State, Rest, Rest) :-
@@ -603,7 +615,9 @@ flag_item(printing, _, _, flag(printing)).
 declared_items(Kind, Specs, Module, State, Items, Rest) :-
     findall(Item, declared(Kind, Specs, Module, Item), Declared),
     (   memberchk(maybe, State.conditions)
-    ->  findall(conditional(P), ( member(meta(P, _), Declared) ; member(redefined(P), Declared) ), Conditional)
+    ->  findall(conditional(P),
+                ( member(meta(P, _), Declared) ; member(redefined(P), Declared) ; member(transparent(P), Declared) ),
+                Conditional)
     ;   Conditional = []
     ),
     append(Declared, More, Items),

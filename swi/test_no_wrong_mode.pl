@@ -563,6 +563,136 @@ n:forall(X, Y) :- n:forall(X, Y).\n\
 p :- forall(a, b).\n\
 a.\n\
 b.\n").
+case(table_nested, p/0, no_mode,
+     ":- catch(table(q(_, lattice(j/3))), _, true).\n\
+q(a, 1).\n\
+q(a, 2).\n\
+j(A, B, C) :- j(A, B, C).\n\
+p :- q(a, _).\n").
+case(table_init, p/0, no_mode,
+     ":- initialization(table(q(_, lattice(j/3))), now).\n\
+q(a, 1).\n\
+q(a, 2).\n\
+j(A, B, C) :- j(A, B, C).\n\
+p :- q(a, _).\n").
+case(table_var_body, p/0, lasting(table),
+     "d(q(_, lattice(j/3))).\n\
+i :- d(D), table(D).\n\
+q(a, 1).\n\
+q(a, 2).\n\
+j(A, B, C) :- j(A, B, C).\n\
+p :- q(a, _).\n").
+case(system_redefine, p/0, no_mode,
+     ":- redefine_system_predicate(system:forall(_, _)).\n\
+system:forall(X, Y) :- system:forall(X, Y).\n\
+p :- forall(a, b).\n\
+a.\n\
+b.\n").
+case(letter_listing, p/0, letter,
+     ":- format_predicate(q, lw(_, _)).\n\
+:- dynamic d/1.\n\
+d(a).\n\
+lw(A, B) :- lw(A, B).\n\
+p :- listing(d/1).\n").
+case(thread_signal_later, p/0, lasting(thread_signal),
+     "i :- thread_self(M), thread_create((sleep(0.2), thread_signal(M, l)), _, [detached(true)]).\n\
+l :- l.\n\
+p :- sleep(1).\n").
+case(version_msg, p/0, no_mode,
+     ":- multifile prolog:version_msg/1.\n\
+prolog:version_msg(X) :- prolog:version_msg(X).\n\
+p :- version.\n").
+case(string_to_goal_body, p/0, lasting(prolog_listen),
+     ":- dynamic q/1.\n\
+i :- term_to_atom(G, 'prolog_listen(q/1, cb)'), call(G).\n\
+cb(A, B) :- cb(A, B).\n\
+p :- assertz(q(1)).\n").
+case(string_to_goal_dir, p/0, goal,
+     ":- dynamic q/1.\n\
+:- term_to_atom(G, 'prolog_listen(q/1, cb)'), call(G).\n\
+cb(A, B) :- cb(A, B).\n\
+p :- assertz(q(1)).\n").
+case(dir_module, p/0, lasting(prolog_listen),
+     ":- dynamic q/1.\n\
+c(prolog_listen).\n\
+:- user:(c(C), call(C, q/1, cb)).\n\
+cb(A, B) :- cb(A, B).\n\
+p :- assertz(q(1)).\n").
+case(dir_query, p/0, lasting(prolog_listen),
+     ":- dynamic q/1.\n\
+?- prolog_listen(q/1, cb).\n\
+cb(A, B) :- cb(A, B).\n\
+p :- assertz(q(1)).\n").
+case(dir_neg, p/1, asserts,
+     ":- dynamic q/1.\n\
+c((q(X) :- q(X))).\n\
+:- \\+ ( c(C), \\+ assertz(C) ).\n\
+p(X) :- q(X).\n").
+case(dir_init_module, p/1, asserts,
+     ":- module(m, [p/1]).\n\
+:- dynamic q/1.\n\
+c((q(X) :- q(X))).\n\
+:- initialization(m:i).\n\
+i :- c(C), assertz(C).\n\
+p(X) :- q(X).\n").
+case(dir_findall, p/1, asserts,
+     "c((append(X, Y, Z) :- append(X, Y, Z))).\n\
+:- findall(C, c(C), L), forall(member(C, L), assertz(C)).\n\
+p(_) :- append([], [], _).\n").
+case(dir_frozen_global, p/0, kept(nb_getval/2),
+     ":- use_module(library(when)).\n\
+:- when(nonvar(X), l(X)), nb_setval(k, X).\n\
+l(X) :- l(X).\n\
+p :- nb_getval(k, Y), Y = a.\n").
+case(dir_attrs_global, p/0, kept(nb_current/2),
+     ":- put_attrs(X, att(user, v, [])), nb_setval(k, X).\n\
+attr_unify_hook(A, B) :- attr_unify_hook(A, B).\n\
+p :- nb_current(k, Y), Y = a.\n").
+case(dir_univ_attr, p/0, goal,
+     ":- atom_concat(put, '_attr', N), G =.. [N, X, user, v], call(G), nb_setval(k, X).\n\
+attr_unify_hook(A, B) :- attr_unify_hook(A, B).\n\
+p :- nb_getval(k, Y), Y = a.\n").
+case(lib_own_setting, p/0, asserts,
+     "setting(A, B, C, D) :- assertz(A), B = C, C = D.\n\
+:- dynamic q/1.\n\
+:- setting((q(X) :- q(X)), b, b, b).\n\
+p :- q(a).\n").
+case(lib_own_listen, p/0, goal,
+     "listen(A, B) :- c(A, C), call(C, B).\n\
+c(a, prolog_listen(q/1)).\n\
+:- dynamic q/1.\n\
+:- listen(a, cb).\n\
+cb(A, B) :- cb(A, B).\n\
+p :- assertz(q(1)).\n").
+case(asserta_hook, p/0, adds,
+     ":- dynamic user:portray/1.\n\
+i :- H = portray(_), asserta((user:H :- l)).\n\
+l :- l.\n\
+p :- print(a).\n").
+case(asserta_hook_dir, p/0, asserts,
+     "c((user:portray(_) :- l)).\n\
+:- c(C), asserta(C).\n\
+l :- l.\n\
+p :- print(a).\n").
+case(goalexp_unknown, p/0, asserts,
+     "c((user:goal_expansion(q, l))).\n\
+:- c(C), assertz(C).\n\
+p :- q.\n\
+q.\n\
+l :- l.\n").
+case(system_abolish, p/0, external(system:'$set_predicate_attribute'/3),
+     ":- '$set_predicate_attribute'(system:ignore(_), system, false).\n\
+system:ignore(X) :- system:ignore(X).\n\
+p :- ignore(a).\n\
+a.\n").
+case(lib_hook_pairs, p/0, no_mode,
+     "pairs:pairs_keys([], []) :- l.\n\
+l :- l.\n\
+p :- pairs_keys([], _).\n").
+case(print_prefix, p/0, no_mode,
+     ":- multifile prolog:message_prefix_hook/2.\n\
+prolog:message_prefix_hook(A, B) :- prolog:message_prefix_hook(A, B).\n\
+p :- print_message(error, format(\"x\", [])).\n").
 
 :- end_tests(no_wrong_mode).
 
