@@ -25,6 +25,7 @@ module is not proved; what cti says of the pure program is.
 :- use_module(components).
 :- use_module(pure_program).
 :- use_module(real_builtins, [is_harmless_name/1, is_protected/1, is_read_library/1]).
+:- use_module(real_goals, [is_autoloaded/2]).
 :- use_module(real_source).
 
 %!  cti_file_modes(+File, -Modes, -Assumptions) is det.
@@ -228,10 +229,14 @@ first_line([clause(_, _, Line)|_], Line).
 %   first.
 
 notes_below(Program, Source, Modes, Components, Graph, Below) :-
+    early_calls(Program, Source, Graph, Early),
     findall(Key-Places,
-            ( member(predicate(Key, _, Notes), Program),
+            ( member(predicate(Key, Clauses, Notes), Program),
               findall(place(Named, Line, Doubt),
-                      ( member(note(Line, Doubt), Notes), named_key(Key, Named) ),
+                      (   member(note(Line, Doubt), Notes), named_key(Key, Named)
+                      ;   memberchk(Key, Early),
+                          first_line(Clauses, Line), Named = Key, Doubt = imported
+                      ),
                       Places0),
               sort(Places0, Places) ),
             Pairs),
@@ -240,6 +245,31 @@ notes_below(Program, Source, Modes, Components, Graph, Below) :-
     foldl(component_notes(Direct, Graph), Components, Empty, Below0),
     everybodys_notes(Source, Modes, Pairs, Below0, Everywhere),
     map_assoc(relied_on(Everywhere), Below0, Below).
+
+%   early_calls(+Program, +Source, +Graph, -Keys): predicates of the file that a
+%   directive calls, and a library has too: if they are not there yet, the
+%   library's are imported, and the file's are refused.
+
+early_calls(Program, Source, Graph, Keys) :-
+    (   memberchk(predicate(directives, _, _), Program)
+    ->  reached([directives], Graph, [], Reached),
+        findall(Key,
+                ( member(Key, Reached),
+                  Key = Module:PI,
+                  get_assoc(Key, Source.clauses, _),
+                  is_autoloaded(PI, Module) ),
+                Keys)
+    ;   Keys = []
+    ).
+
+reached([], _, Reached, Reached).
+reached([Key|Keys], Graph, Reached0, Reached) :-
+    (   ( memberchk(Key, Reached0) ; \+ get_assoc(Key, Graph, _) )
+    ->  reached(Keys, Graph, Reached0, Reached)
+    ;   get_assoc(Key, Graph, Callees),
+        append(Callees, Keys, More),
+        reached(More, Graph, [Key|Reached0], Reached)
+    ).
 
 %   What a goal adds matters to others alone, and only where a directive calls it.
 
@@ -583,6 +613,8 @@ assumption_text(lasting(What), Text) :-
     format(string(Text), "~q may have goals run, or other clauses called, later: these end", [What]).
 assumption_text(hook(PI), Text) :-
     format(string(Text), "~q is called by the system: it ends whenever it is called", [PI]).
+assumption_text(unit(Name), Text) :-
+    format(string(Text), "the tests ~q are there before, and are replaced: nothing calls those", [Name]).
 assumption_text(shadows(PI), Text) :-
     format(string(Text), "no clause that the file adds, and that is not known, is of ~q", [PI]).
 assumption_text(libraries, "it says where libraries are found: those that the file uses are SWI-Prolog's").

@@ -1,6 +1,7 @@
 :- module(file_doubts,
           [ file_doubts/3,              % +Items, +Clauses, -Doubts
-            mentions/2                  % +Items, -Names
+            mentions/2,                 % +Items, -Names
+            leaves_waiting/1            % ?Name
           ]).
 
 /** <module> What a file sets up that is run later
@@ -75,19 +76,29 @@ only_names(Term) :-
 watched(Name) :-
     lasts(Name).
 watched(Name) :-
-    waits(Name).
+    leaves_waiting(Name).
 watched(at_halt).
 watched(thread_at_exit).
 watched(prolog_at_thread_exit).
 watched(quasi_quotation_syntax).
 
-%   Goals that wait for a variable.
+%!  leaves_waiting(?Name) is nondet.
+%
+%   What has that name leaves a goal waiting for a variable, or says what is then
+%   done.
 
-waits(freeze).
-waits(when).
-waits(dif).
-waits(put_attr).
-waits(put_attrs).
+leaves_waiting(freeze).
+leaves_waiting(when).
+leaves_waiting(dif).
+leaves_waiting(put_attr).
+leaves_waiting(put_attrs).
+leaves_waiting('$suspend').
+leaves_waiting(attr_unify_hook).
+leaves_waiting(verify_attributes).
+leaves_waiting(block).
+leaves_waiting(lazy_list).
+leaves_waiting(phrase_from_file).
+leaves_waiting(phrase_from_stream).
 
 %   What has goals run, or clauses called, later.
 
@@ -104,6 +115,7 @@ lasts(on_signal).
 lasts(prolog_alert_signal).
 lasts(thread_signal).
 lasts(thread_initialization).
+lasts(unload_file).
 lasts(register_iri_scheme).
 lasts(autoload_path).
 lasts(attach_packs).
@@ -146,8 +158,16 @@ file_doubt(Items, _, Line, lasting(load_files)) :-
     sub_term(Option, Options),
     nonvar(Option),
     Option = stream(_).
+file_doubt(Items, _, Line, lasting(abolish)) :-
+    member(raw(Line, Term), Items),
+    sub_term(Goal, Term),
+    nonvar(Goal),
+    (   Goal = abolish(Name)
+    ;   Goal = abolish(Name, _)
+    ),
+    \+ ground(Name).
 file_doubt(_, Clauses, Line, libraries) :-
-    member((_:Name/_)-clause(Line, Head, _), Clauses),
+    member((user:Name/_)-clause(Line, Head, _), Clauses),
     searches_libraries(Name, Head).
 file_doubt(_, Clauses, Line, hook(Module:PI)) :-
     member((Module:PI)-clause(Line, Head, Body), Clauses),

@@ -1,5 +1,6 @@
 :- module(real_goals,
-          [ predicate_clauses/4         % +Main, +Key, -Clauses, -Found
+          [ predicate_clauses/4,        % +Main, +Key, -Clauses, -Found
+            is_autoloaded/2             % +Name/Arity, +Module
           ]).
 
 /** <module> Real clauses as pure clauses that cover them
@@ -27,6 +28,7 @@ docs/real-files.md says for each doubt what is assumed.
 :- use_module(library(terms)).
 :- use_module(library(varnumbers)).
 :- use_module(library(yall)).
+:- use_module(file_doubts, [leaves_waiting/1]).
 :- use_module(real_builtins).
 :- use_module(real_source).
 
@@ -306,11 +308,27 @@ plain_goal(G, Context, P) -->
     { resolved(G, Context, Where) },
     (   { Context.directive == yes, Where \= own(_) }
     ->  directive_goal(G, Where, Context, P)
+    ;   { may_be_undefined(Where, G, Context, Elsewhere) }
+    ->  goal_of(Where, G, Context, P0),
+        goal_of(Elsewhere, G, Context, P1),
+        { either(P0, P1, P) }
     ;   { shadowing(Where, G, Context, Predicate) }
     ->  goal_of(Where, G, Context, P0),
         call_of(Predicate, Context.main, G, Context, P1),
         { either(P0, P1, P) }
     ;   goal_of(Where, G, Context, P)
+    ).
+
+%   may_be_undefined(+Where, +Goal, +Context, -Elsewhere): where the file's own
+%   predicate is not defined yet, or no longer, one of SWI-Prolog's is called.
+
+may_be_undefined(own(Predicate), G, Context, Elsewhere) :-
+    memberchk(Predicate, Context.source.uncertain),
+    functor(G, Name, Arity),
+    (   sees_imports(Context),
+        import_of(Context.source, Name/Arity, Import)
+    ->  import_where(Import, Elsewhere)
+    ;   of_the_system(G, Name/Arity, Elsewhere)
     ).
 
 %   shadowing(+Where, +Goal, +Context, -Predicate): the file has clauses for a
@@ -410,7 +428,14 @@ resolved(G, Context, Where) :-
     ;   own_module(Context, M),
         is_defined(Context.source, M:PI)
     ->  Where = own(M:PI)
-    ;   Context.module == system
+    ;   resolved_elsewhere(G, PI, Context, Where)
+    ).
+
+%   resolved_elsewhere(+Goal, +PI, +Context, -Where): where the module of the
+%   goal does not define it.
+
+resolved_elsewhere(G, PI, Context, Where) :-
+    (   Context.module == system
     ->  Where = builtin
     ;   \+ knows_module(Context)
     ->  Where = unknown(Context.module:PI)
@@ -420,11 +445,16 @@ resolved(G, Context, Where) :-
     ;   Context.source == Context.main,
         is_defined(Context.source, user:PI)
     ->  Where = own(user:PI)
-    ;   predicate_property(system:G, built_in)
+    ;   of_the_system(G, PI, Where)
+    ->  true
+    ;   Where = unknown(PI)
+    ).
+
+of_the_system(G, PI, Where) :-
+    (   predicate_property(system:G, built_in)
     ->  Where = builtin
     ;   index(PI, Module)
     ->  Where = library(Module)
-    ;   Where = unknown(PI)
     ).
 
 %   is_kept(+Goal, +Context): Goal is built in, and the file does not redefine
@@ -561,12 +591,23 @@ index(PI, Module) :-
     ensure_index,
     kept_index(PI, Module).
 
+%!  is_autoloaded(+PI, +Module) is semidet.
+%
+%   A library other than Module has PI, and is loaded when it is called.
+
+is_autoloaded(PI, Module) :-
+    index(PI, Library),
+    Library \== Module,
+    !.
+
 ensure_index :-
     kept_index(_, _),
     !.
 ensure_index :-
     forall(( absolute_file_name(library('INDEX'), Path, [extensions([pl]), access(read), solutions(all)]),
-             setup_call_cleanup(open(Path, read, In, [encoding(utf8)]), index_entry(In, Name, Arity, Module), close(In)) ),
+             setup_call_cleanup(open(Path, read, In, [encoding(utf8)]),
+                                index_entry(In, Name, Arity, Module),
+                                close(In)) ),
            assertz(kept_index(Name/Arity, Module))).
 
 index_entry(In, Name, Arity, Module) :-
@@ -817,8 +858,8 @@ term_note(Where, G, Context) -->
     ->  note(Context, quasi)
     ;   { Where == system,
           keeps_terms(Name/Arity),
-          member(Waiting, [freeze, when, dif, put_attr, put_attrs]),
-          memberchk(Waiting, Context.main.mentions) }
+          member(Waiting, Context.main.mentions),
+          leaves_waiting(Waiting) }
     ->  note(Context, kept(Name/Arity))
     ;   []
     ).

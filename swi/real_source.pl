@@ -31,6 +31,7 @@ A predicate is Module:Name/Arity. A source is a dict:
 | redefined   | the predicates that stand for built-in ones of their names  |
 | letters     | `yes` where the file may define letters of format/2         |
 | expansions  | expansion(Kind,Pattern): what the file rewrites when loaded |
+| uncertain   | those that may be without any definition when they are called |
 | doubts      | doubt(Line,Doubt): what was not understood of the file      |
 | directives  | directive(Line,Module,Goal) for each directive              |
 | mentions    | names in the text of what is run later, see file_doubts     |
@@ -62,7 +63,7 @@ read_source(File, Source) :-
 
 read_path(Path, Scratch, Items) :-
     State0 = state{path:Path, module:user, file_module:user, scratch:Scratch,
-                  double_quotes:string, back_quotes:codes, conditions:[], flags:[], chr:no, included:no},
+                  double_quotes:string, back_quotes:codes, conditions:[], flags:[], units:[], chr:no, included:no},
     read_text(Path, State0, _, Items, []).
 
 read_text(Path, State0, State, Items, Rest) :-
@@ -553,10 +554,14 @@ obeyed(include(Spec), Line, _, State0, State, Items, Rest) :-
     ;   State = State0,
         Items = [doubt(Line, include(Spec))|Rest]
     ).
-obeyed(begin_tests(Name), _, _, State0, State, Rest, Rest) :-
+obeyed(begin_tests(Name), Line, _, State0, State, Items, Rest) :-
     atom(Name),
     atom_concat(plunit_, Name, Module),
-    State = State0.put(module, Module).
+    State = State0.put(_{module:Module, units:[Name|State0.units]}),
+    (   memberchk(Name, State0.units)
+    ->  Items = [doubt(Line, unit(Name))|Rest]
+    ;   Items = Rest
+    ).
 obeyed(begin_tests(Name, _), Line, In, State0, State, Items, Rest) :-
     obeyed(begin_tests(Name), Line, In, State0, State, Items, Rest).
 obeyed(end_tests(_), _, _, State0, State, Rest, Rest) :-
@@ -849,6 +854,7 @@ source_of(Path, Items, Source) :-
     collected(P, member(dynamic(P), Items), Dynamic0),
     collected(P, member(dynamic(P), Asserted), Dynamic1),
     ord_union_(Dynamic0, Dynamic1, Dynamic),
+    collected(P, uncertain(Items, Pairs0, Dynamic1, P), Uncertain),
     collected(P, member(multifile(P), Items), Multifile),
     collected(P, member(conditional(P), Items), Conditional),
     collected(P-K, member(tabled(P, K), Items), Tabled),
@@ -882,8 +888,33 @@ source_of(Path, Items, Source) :-
                     imports:Imports, reexports:Reexports, arithmetic:Arithmetic, redefined:Redefined,
                     transparent:Transparent,
                     expansions:Expansions, letters:Letters,
-                    doubts:Doubts, adds:Adds, directives:Directives, mentions:Mentions, flags:Flags,
-                    joins:Joins}.
+                    uncertain:Uncertain, doubts:Doubts, adds:Adds, directives:Directives,
+                    mentions:Mentions, flags:Flags, joins:Joins}.
+
+%   uncertain(+Items, +Pairs, +Dynamic, -Predicate): nothing but goals that may
+%   not have run yet makes Predicate, or a goal abolishes it.
+
+uncertain(Items, Pairs, Dynamic, Predicate) :-
+    member(Predicate, Dynamic),
+    \+ memberchk(Predicate-_, Pairs),
+    \+ memberchk(dynamic(Predicate), Items),
+    \+ memberchk(multifile(Predicate), Items).
+uncertain(Items, Pairs, _, M:Name/Arity) :-
+    member(raw(_, Term), Items),
+    sub_term(Goal, Term),
+    nonvar(Goal),
+    (   Goal = abolish(Abolished)
+    ->  true
+    ;   Goal = abolish(Name, Arity),
+        Abolished = Name/Arity
+    ),
+    strip_module(Abolished, M0, PI),
+    PI = Name/Arity,
+    atom(Name),
+    integer(Arity),
+    (   M = M0
+    ;   member((M:Name/Arity)-_, Pairs)
+    ).
 
 has_atom(Term, Name) :-
     sub_term(Sub, Term),

@@ -1,6 +1,7 @@
 :- encoding(utf8).
 
-% Tests that no file gets a mode that a query of it breaks. Run them at the top of the repository, once bin/cti is built:
+% Tests that no file gets a mode that a query of it breaks. Run them at the top of the repository, once bin/cti is
+% built:
 %
 %     CTI=bin/cti swipl -g run_tests -t halt swi/test_no_wrong_mode.pl
 
@@ -41,8 +42,11 @@ script_output(Environment, File, Status, Output) :-
     call_cleanup(read_string(Out, _, Output), close(Out)),
     process_wait(Process, exit(Status)).
 
-test(names_in_any_locale, [forall(member(Environment, [[], ['LC_ALL=C'], ['LC_ALL=POSIX'], ['LC_ALL=C.UTF-8']])), true]) :-
-    with_file("größer(X) :- größer(X).\np(X) :- größer(X).\n'日本'([]).\n'日本'([_|T]) :- '日本'(T).\n", File,
+test(names_in_any_locale,
+     [ forall(member(Environment, [[], ['LC_ALL=C'], ['LC_ALL=POSIX'], ['LC_ALL=C.UTF-8']])),
+       true ]) :-
+    with_file("größer(X) :- größer(X).\np(X) :- größer(X).\n\
+'日本'([]).\n'日本'([_|T]) :- '日本'(T).\n", File,
               script_output(Environment, File, Status, Output)),
     Status == 0,
     has_text(Output, "no mode: line 2 calls größer/1"),
@@ -54,7 +58,8 @@ has_text(Output, Text) :-
     once(sub_string(Output, _, _, _, Text)).
 
 test(names_of_all_kinds, Sets == [[], [], [], [], []]) :-
-    with_file("'a\\x1\\b\\n'(X) :- 'a\\x1\\b\\n'(X).\n😀(X) :- 😀(X).\n'\\u2028'(X) :- '\\u2028'(X).\n''(X) :- ''(X).\n\
+    with_file("'a\\x1\\b\\n'(X) :- 'a\\x1\\b\\n'(X).\n😀(X) :- 😀(X).\n\
+'\\u2028'(X) :- '\\u2028'(X).\n''(X) :- ''(X).\n\
 '\\\\'(X) :- '\\\\'(X).\n", File,
               cti_file_modes(File, Modes, _)),
     findall(Set, member(_-Set, Modes), Sets).
@@ -534,7 +539,8 @@ case(tflag_body, q/1, tabled,
 q(0).\n\
 q(s(X)) :- q(X).\n").
 case(tflag_var, q/1, tabled,
-     "i :- member(F-V, [max_table_subgoal_size_action-abstract, max_table_subgoal_size-3]), set_prolog_flag(F, V), fail.\n\
+     "i :- member(F-V, [max_table_subgoal_size_action-abstract, max_table_subgoal_size-3]),\n\
+set_prolog_flag(F, V), fail.\n\
 i.\n\
 :- table q/1.\n\
 q(0).\n\
@@ -693,6 +699,71 @@ case(print_prefix, p/0, no_mode,
      ":- multifile prolog:message_prefix_hook/2.\n\
 prolog:message_prefix_hook(A, B) :- prolog:message_prefix_hook(A, B).\n\
 p :- print_message(error, format(\"x\", [])).\n").
+case(autoload_before, p/1, imported,
+     ":- append([], [], _).\n\
+append(_, _, _).\n\
+p(X) :- append(_, X, _), fail.\n").
+case(autoload_before_init, p/1, imported,
+     "q :- append([], [], _).\n\
+:- q.\n\
+append(_, _, _).\n\
+p(X) :- append(_, X, _), fail.\n").
+case(abolish_lib_dir, p/1, no_mode,
+     "append(_, _, _).\n\
+:- abolish(append/3).\n\
+p(X) :- append(_, X, _), fail.\n").
+case(abolish_lib_body, p/1, no_mode,
+     "append(_, _, _).\n\
+i :- abolish(append/3).\n\
+p(X) :- append(_, X, _), fail.\n").
+case(dyn_lib_nested, p/1, no_mode,
+     ":- ( current_prolog_flag(bounded, true) -> dynamic(append/3) ; true ).\n\
+p(X) :- append(_, X, _), fail.\n").
+case(dyn_lib_body, p/1, no_mode,
+     "i :- dynamic(append/3).\n\
+p(X) :- append(_, X, _), fail.\n").
+case(assert_lib_body, p/1, no_mode,
+     "i :- assertz(append(a, a, a)).\n\
+p(X) :- append(_, X, _), fail.\n").
+case(builtin_asserted, p/0, no_mode,
+     "i :- assertz(forall(_, _)).\n\
+p :- forall(l, true).\n\
+l :- l.\n").
+case(builtin_dyn_body, p/0, no_mode,
+     "i :- dynamic(ignore/1).\n\
+p :- ignore(l).\n\
+l :- l.\n").
+case(unit_user, plunit_u:p/0, unit(u),
+     ":- use_module(library(plunit)).\n\
+:- begin_tests(u).\n\
+append(_, _, _).\n\
+:- end_tests(u).\n\
+:- begin_tests(u).\n\
+p :- append(_, [], _), fail.\n\
+:- end_tests(u).\n").
+case(lazy, p/0, kept(nb_getval/2),
+     ":- use_module(library(lazy_lists)).\n\
+i :- lazy_list(nx, 0, L), nb_setval(k, L).\n\
+nx(_, _, _) :- l.\n\
+l :- l.\n\
+p :- nb_getval(k, L), L = [_|_].\n").
+case(builtin_cond, p/0, conditional,
+     ":- if(my_flag).\n\
+forall(_, _).\n\
+:- endif.\n\
+p :- forall(l, true).\n\
+l :- l.\n\
+my_flag :- fail.\n").
+case(block, p/0, no_mode,
+     ":- expects_dialect(sicstus).\n\
+:- block q(-).\n\
+q(_) :- l.\n\
+l :- l.\n\
+p :- q(X), X = a.\n").
+case(builtin_refused, p/0, no_mode,
+     "findall(_, _, _).\n\
+p :- findall(x, l, _).\n\
+l :- l.\n").
 
 :- end_tests(no_wrong_mode).
 
@@ -738,7 +809,9 @@ goal_with_loop(Name, Specs, Index, Goal, LoopArity) :-
     findall(Argument, ( nth1(I, Specs, S), goal_argument(Index, I, S, Argument) ), Arguments),
     Goal =.. [Name|Arguments].
 
-test(goals_of_built_in_predicates, [forall(( takes_goal(Name/_, Specs), goal_with_loop(Name, Specs, _, Goal, LoopArity) )), true]) :-
+test(goals_of_built_in_predicates,
+     [ forall(( takes_goal(Name/_, Specs), goal_with_loop(Name, Specs, _, Goal, LoopArity) )),
+       true ]) :-
     functor(Loop, loop, LoopArity),
     format(string(Text), "p :- ~q.~n~q :- ~q.~n", [Goal, Loop, Loop]),
     with_file(Text, File, cti_file_modes(File, Modes, Assumptions, [check(false)])),
@@ -809,22 +882,26 @@ test(flags_known_by_name, Unknown == []) :-
 
 test(harmless_directives, Assumptions == []) :-
     with_file(":- module(m, [p/1]).\n:- use_module(library(lists)).\n:- autoload(library(apply), [maplist/2]).\n\
-:- use_foreign_library(foreign(process)).\n:- dynamic d/1.\n:- discontiguous p/1.\n:- meta_predicate q(0).\n:- op(700, xfx, ===>).\n\
-:- set_prolog_flag(generate_debug_info, false).\n:- set_prolog_flag(my_own, 1).\n:- create_prolog_flag(my_flag, true, [keep(true)]).\n\
-:- set_prolog_flag(double_quotes, codes).\n:- style_check(-singleton).\n:- license(gpl).\n:- initialization(main, main).\n\
-:- predicate_options(p/1, 1, [a(integer)]).\n:- use_module(library(settings)).\n:- setting(a, integer, 1, 'A').\n:- debug(x).\n\
-:- nb_setval(k, 1).\n:- assertz(d(1)).\n:- retractall(d(2)).\n:- format(\"loading~n\").\n\
-:- public p/1.\n:- table t/1.\nt(_).\np([]).\np([_|T]) :- p(T).\nq(_).\nmain :- current_prolog_flag(argv, A), go(A).\ngo(A) :- call(A).\n",
+:- use_foreign_library(foreign(process)).\n:- dynamic d/1.\n:- discontiguous p/1.\n:- meta_predicate q(0).\n\
+:- op(700, xfx, ===>).\n:- set_prolog_flag(generate_debug_info, false).\n:- set_prolog_flag(my_own, 1).\n\
+:- create_prolog_flag(my_flag, true, [keep(true)]).\n:- set_prolog_flag(double_quotes, codes).\n\
+:- style_check(-singleton).\n:- license(gpl).\n:- initialization(main, main).\n\
+:- predicate_options(p/1, 1, [a(integer)]).\n:- use_module(library(settings)).\n\
+:- setting(a, integer, 1, 'A').\n:- debug(x).\n:- nb_setval(k, 1).\n:- assertz(d(1)).\n\
+:- retractall(d(2)).\n:- format(\"loading~n\").\n:- public p/1.\n:- table t/1.\nt(_).\n\
+p([]).\np([_|T]) :- p(T).\nq(_).\nmain :- current_prolog_flag(argv, A), go(A).\ngo(A) :- call(A).\n",
               File, cti_file_modes(File, Modes, Assumptions0, [check(false)])),
     memberchk(p/1-[[1]], Modes),
     findall(Assumption,
             ( member(Assumption, Assumptions0), Assumption = assumed(_, _, _, Dependents), memberchk(p/1, Dependents) ),
             Assumptions).
 test(options_that_are_known, Assumptions == []) :-
-    with_file("p(X) :- write_term(X, [quoted(true), max_depth(3)]), format(\"~a ~W~n\", [a, X, [quoted(true)]]).\n", File,
+    with_file("p(X) :- write_term(X, [quoted(true), max_depth(3)]),\n\
+format(\"~a ~W~n\", [a, X, [quoted(true)]]).\n", File,
               cti_file_modes(File, [p/1-[[]]], Assumptions, [check(false)])).
 test(hook_that_ends, Assumptions == []) :-
-    with_file(":- multifile user:message_hook/3.\nuser:message_hook(T, K, _) :- K == silent, T = x.\np(a).\n", File,
+    with_file(":- multifile user:message_hook/3.\n\
+user:message_hook(T, K, _) :- K == silent, T = x.\np(a).\n", File,
               cti_file_modes(File, Modes, Assumptions0, [check(false)])),
     memberchk(p/1-[[]], Modes),
     findall(Assumption,
