@@ -710,8 +710,10 @@ builtin(Where, G, Context, P) -->
 builtin(_, G, Context, true) -->
     { functor(G, Name, Arity) },
     note(Context, external(system:Name/Arity)),
-    (   { G = table(Specs), var(Specs) }
-    ->  note(Context, lasting(table))
+    (   { memberchk(Name/Arity, [(table)/1, (meta_predicate)/1, (module_transparent)/1, redefine_system_predicate/1]),
+          arg(1, G, Specs),
+          var(Specs) }                  % what is declared does not stand in the text
+    ->  note(Context, lasting(Name))
     ;   []
     ).
 

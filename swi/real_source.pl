@@ -470,11 +470,7 @@ may_run(Term, Line, Goal, State0-Items, State-Rest) :-
         ),
         State = State0
     ;   nested_declaration(Goal, Kind, Specs)
-    ->  (   var(Specs), Kind \== tabled, Kind \== arithmetic
-        ->  functor(Goal, Name, _),
-            Items = [doubt(Line, lasting(Name))|Rest]
-        ;   declared_items(Kind, Specs, State0.module, State0.put(conditions, [maybe]), Items, Rest)
-        ),
+    ->  declared_items(Kind, Specs, State0.module, State0.put(conditions, [maybe]), Items, Rest),
         State = State0
     ;   obeyed(Goal, Line, none, State0, State, Items, Rest)
     ->  true
