@@ -271,14 +271,15 @@ reached([Key|Keys], Graph, Reached0, Reached) :-
         reached(More, Graph, [Key|Reached0], Reached)
     ).
 
-%   What a goal adds matters to others alone, and only where a directive calls it.
+%   What a goal adds, or how the text is then read, matters to others alone, and
+%   only where a directive calls it.
 
 relied_on(Everywhere, Below, Notes) :-
-    exclude(adds_clause, Below, Own),
+    exclude(of_directives_alone, Below, Own),
     ord_union(Everywhere, Own, Notes).
 
-adds_clause(place(_, _, Doubt)) :-
-    memberchk(Doubt, [asserts, directive(asserts)]).
+of_directives_alone(place(_, _, Doubt)) :-
+    memberchk(Doubt, [asserts, directive(asserts), flags, directive(flags)]).
 
 %   Doubts of the whole file are everybody's, and so are those of what its
 %   directives call, and those of what a goal leaves behind.

@@ -11,6 +11,7 @@
             reads_terms/2,              % +Where, +Name/Arity
             keeps_terms/1,              % +Name/Arity
             runs_later/2,               % +Where, +Name/Arity
+            declares_what_it_names/1,   % +Name/Arity
             is_harmless_directive/1,    % +Goal
             is_harmless_name/1,         % +Name/Arity
             flag_kind/2,                % +Flag, -Kind
@@ -455,18 +456,32 @@ is_harmless_directive(initialization(_, When)) :-
     !,
     When == main.
 is_harmless_directive(set_prolog_flag(_, _)) :- !.
+is_harmless_directive(import(Import)) :-
+    !,
+    ground(Import).
+is_harmless_directive(expects_dialect(Dialect)) :-
+    !,
+    Dialect == swi.
 is_harmless_directive(Goal) :-
     functor(Goal, Name, Arity),
-    is_harmless_name(Name/Arity).
+    \+ ( declares_what_it_names(Name/Arity), arg(1, Goal, Declared), var(Declared) ),
+    harmless_directives(PIs),
+    memberchk(Name/Arity, PIs),
+    !.
+
+declares_what_it_names((table)/1).
+declares_what_it_names((meta_predicate)/1).
+declares_what_it_names((module_transparent)/1).
+declares_what_it_names(redefine_system_predicate/1).
 
 %!  is_harmless_name(+PI) is semidet.
 %
-%   No call of PI leaves anything behind that concerns the file's predicates.
+%   No call of PI leaves anything behind that concerns the file's predicates,
+%   whatever its arguments are.
 
 is_harmless_name(PI) :-
-    harmless_directives(PIs),
-    memberchk(PI, PIs),
-    !.
+    memberchk(PI, [ use_foreign_library/1, use_foreign_library/2, load_foreign_library/1, load_foreign_library/2,
+                    compile_predicates/1, (public)/1, (volatile)/1, noprofile/1, '$hide'/1, style_check/1, license/1 ]).
 
 harmless_directives(
     [ (dynamic)/1, (dynamic)/2, (discontiguous)/1, (multifile)/1, (public)/1, (volatile)/1, (thread_local)/1,

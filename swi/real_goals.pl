@@ -79,7 +79,7 @@ said_of_directive(note(Line, Doubt), note(Line, directive(Doubt))) :- !.
 said_of_directive(Found, Found).
 
 context(Main, Source, Module, Line,
-        context{main:Main, source:Source, module:Module, line:Line, numbers:[], directive:no}).
+        context{main:Main, source:Source, module:Module, line:Line, numbers:[], directive:no, closure:no}).
 
 %   What tabling calls to join the answers of a predicate.
 
@@ -700,6 +700,8 @@ builtin(Where, G, Context, P) -->
     module_note(Where, G, Context),
     (   { Where == system, adds_unknown_clause(G, Context.module) }
     ->  note(Context, asserts)
+    ;   { Where == system, Context.closure == yes, sets_reading_flag(G) }
+    ->  note(Context, flags)            % real_source finds those that stand in the text
     ;   []
     ),
     hook_calls(G, Context, P0),
@@ -710,12 +712,20 @@ builtin(Where, G, Context, P) -->
 builtin(_, G, Context, true) -->
     { functor(G, Name, Arity) },
     note(Context, external(system:Name/Arity)),
-    (   { memberchk(Name/Arity, [(table)/1, (meta_predicate)/1, (module_transparent)/1, redefine_system_predicate/1]),
+    (   { declares_what_it_names(Name/Arity),
           arg(1, G, Specs),
           var(Specs) }                  % what is declared does not stand in the text
     ->  note(Context, lasting(Name))
     ;   []
     ).
+
+sets_reading_flag(G) :-
+    (   G = set_prolog_flag(Flag0, _)
+    ;   G = create_prolog_flag(Flag0, _, _)
+    ),
+    strip_module(Flag0, _, Flag),
+    flag_kind(Flag, Kind),
+    memberchk(Kind, [any, reading]).
 
 %   What is imported for good, and from where, stands in the text.
 
@@ -1023,7 +1033,7 @@ applied(M:C, Xs, Context, P) -->
     (   { lambda_term(C) }
     ->  lambda(C, Xs, M, Context, P)
     ;   { with_arguments(C, Xs, G) }
-    ->  goal_in(M, G, Context, P)
+    ->  goal_in(M, G, Context.put(closure, yes), P)
     ;   { P = true },
         note(Context, goal)
     ).

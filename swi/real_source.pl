@@ -436,6 +436,8 @@ changes_reading(Goal) :-
     ->  true
     ;   nested_declaration(Goal, _, _)
     ->  true
+    ;   memberchk(Name/Arity, ['$set_source_module'/1, '$set_source_module'/2])
+    ->  true
     ;   Goal = prolog_load_context(Key, _)
     ->  \+ Key \= stream
     ;   Goal = import(Import)
@@ -449,6 +451,10 @@ changes_reading(Goal) :-
         \+ ( Name == autoload, atom(Spec) )        % an option
     ).
 
+changes_module(_, prolog_load_context(_, _)).
+changes_module(clause(_), '$set_source_module'(_)).
+changes_module(clause(_), '$set_source_module'(_, _)).
+
 %   A declaration that a goal makes may be made or not.
 
 nested_declaration(Goal, Kind, Specs) :-
@@ -456,7 +462,7 @@ nested_declaration(Goal, Kind, Specs) :-
     memberchk(Kind, [tabled, meta, arithmetic, redefined, transparent]).
 
 may_run(Term, Line, Goal, State0-Items, State-Rest) :-
-    (   Goal = prolog_load_context(_, _)        % it may read more of the text
+    (   changes_module(Term, Goal)      % or it may read more of the text
     ->  flag_item(reading, _, Line, Item),
         flag_items(Term, reading, Item, Line, Items, Rest),
         State = State0

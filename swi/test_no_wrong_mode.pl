@@ -764,6 +764,49 @@ case(builtin_refused, p/0, no_mode,
      "findall(_, _, _).\n\
 p :- findall(x, l, _).\n\
 l :- l.\n").
+case(flag_closure2, w/1, flags,
+     ":- maplist(set_prolog_flag(double_quotes), [codes]).\n\
+w([_|T]) :- app(\"ab\", T, L), w(L).\n\
+app([], L, L).\n\
+app([H|T], L, [H|R]) :- app(T, L, R).\n").
+case(flag_phrase, w/1, flags,
+     ":- foldl([F,V,V]>>set_prolog_flag(F,V), [double_quotes], codes, _).\n\
+w([_|T]) :- app(\"ab\", T, L), w(L).\n\
+app([], L, L).\n\
+app([H|T], L, [H|R]) :- app(T, L, R).\n").
+case(import_closure2, p/1, lasting(import),
+     ":- module(m, [p/1]).\n\
+n:append(X, Y, Z) :- n:append(X, Y, Z).\n\
+c(n:append/3).\n\
+:- forall(c(X), import(X)).\n\
+p(X) :- append(X, [], _), fail.\n").
+case(use_closure, p/1, external(system:consult/1),
+     ":- tmp_file_stream(text, F, S), writeln(S, \"append(X,Y,Z) :- append(X,Y,Z).\"), close(S),\n\
+maplist(consult, [F]).\n\
+p(X) :- append(X, [], _), fail.\n").
+case(redefine_var, p/0, lasting(redefine_system_predicate),
+     ":- forall(member(P, [atom_length(_, _)]), redefine_system_predicate(P)).\n\
+atom_length(X, Y) :- atom_length(X, Y).\n\
+p :- atom_length(a, _).\n").
+case(listen_closure, p/0, lasting(prolog_listen),
+     ":- dynamic q/1.\n\
+:- maplist(prolog_listen(q/1), [cb]).\n\
+cb(A, B) :- cb(A, B).\n\
+p :- assertz(q(1)).\n").
+case(hook_by_name, p/0, asserts,
+     "n(portray).\n\
+:- n(N), H =.. [N, _], assertz((user:H :- l)).\n\
+l :- l.\n\
+p :- print(x).\n").
+case(assert_closure, p/0, no_mode,
+     ":- dynamic q/1.\n\
+:- maplist([X]>>assertz((q(X) :- q(X))), [1]).\n\
+p :- q(1).\n").
+case(flag_closure, p/1, no_mode,
+     ":- maplist(set_prolog_flag(double_quotes), [codes]).\n\
+p(X) :- X = \"ab\", q(X).\n\
+q(X) :- is_list(X), q(X).\n\
+q(X) :- string(X).\n").
 
 :- end_tests(no_wrong_mode).
 
