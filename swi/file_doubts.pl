@@ -100,6 +100,26 @@ leaves_waiting(lazy_list).
 leaves_waiting(phrase_from_file).
 leaves_waiting(phrase_from_stream).
 
+%   What adds clauses of the file that is being loaded: from a clause, if a
+%   directive or an expansion calls it.
+
+only_while_loading(compile_aux_clauses).
+only_while_loading('$store_clause').
+only_while_loading('$add_clause').
+
+in_directive(Items, Line) :-
+    member(raw(Line, Term), Items),
+    nonvar(Term),
+    (   Term = (:- _)
+    ;   Term = (?- _)
+    ),
+    !.
+
+has_expansion(Clauses) :-
+    member((_:Name/_)-_, Clauses),
+    memberchk(Name, [term_expansion, goal_expansion]),
+    !.
+
 %   What has goals run, or clauses called, later.
 
 lasts(prolog_listen).
@@ -131,9 +151,12 @@ file_doubts(Items, Clauses, Doubts) :-
     findall(doubt(Line, Doubt), file_doubt(Items, Clauses, Line, Doubt), Doubts0),
     sort(Doubts0, Doubts).
 
-file_doubt(Items, _, Line, lasting(Name)) :-
+file_doubt(Items, Clauses, Line, lasting(Name)) :-
     mentioned_in(Items, Line, Name),
-    lasts(Name).
+    lasts(Name),
+    \+ ( only_while_loading(Name),
+         \+ in_directive(Items, Line),
+         \+ has_expansion(Clauses) ).
 file_doubt(Items, _, Line, lasting(Name)) :-
     member(raw(Line, Term), Items),
     sub_term(Text, Term),
@@ -158,14 +181,6 @@ file_doubt(Items, _, Line, lasting(load_files)) :-
     sub_term(Option, Options),
     nonvar(Option),
     Option = stream(_).
-file_doubt(Items, _, Line, lasting(abolish)) :-
-    member(raw(Line, Term), Items),
-    sub_term(Goal, Term),
-    nonvar(Goal),
-    (   Goal = abolish(Name)
-    ;   Goal = abolish(Name, _)
-    ),
-    \+ ground(Name).
 file_doubt(_, Clauses, Line, libraries) :-
     member((user:Name/_)-clause(Line, Head, _), Clauses),
     searches_libraries(Name, Head).

@@ -323,7 +323,10 @@ plain_goal(G, Context, P) -->
 %   predicate is not defined yet, or no longer, one of SWI-Prolog's is called.
 
 may_be_undefined(own(Predicate), G, Context, Elsewhere) :-
-    memberchk(Predicate, Context.source.uncertain),
+    (   memberchk(Predicate, Context.source.uncertain)
+    ->  true
+    ;   memberchk(any, Context.source.uncertain)
+    ),
     functor(G, Name, Arity),
     (   sees_imports(Context),
         import_of(Context.source, Name/Arity, Import)

@@ -31,7 +31,8 @@ A predicate is Module:Name/Arity. A source is a dict:
 | redefined   | the predicates that stand for built-in ones of their names  |
 | letters     | `yes` where the file may define letters of format/2         |
 | expansions  | expansion(Kind,Pattern): what the file rewrites when loaded |
-| uncertain   | those that may be without any definition when they are called |
+| uncertain   | those that may be without any definition when they are called, |
+|             | or `any`                                                    |
 | doubts      | doubt(Line,Doubt): what was not understood of the file      |
 | directives  | directive(Line,Module,Goal) for each directive              |
 | mentions    | names in the text of what is run later, see file_doubts     |
@@ -901,7 +902,7 @@ uncertain(Items, Pairs, Dynamic, Predicate) :-
     \+ memberchk(Predicate-_, Pairs),
     \+ memberchk(dynamic(Predicate), Items),
     \+ memberchk(multifile(Predicate), Items).
-uncertain(Items, Pairs, _, M:Name/Arity) :-
+uncertain(Items, Pairs, _, Predicate) :-
     member(raw(_, Term), Items),
     sub_term(Goal, Term),
     nonvar(Goal),
@@ -910,12 +911,17 @@ uncertain(Items, Pairs, _, M:Name/Arity) :-
     ;   Goal = abolish(Name, Arity),
         Abolished = Name/Arity
     ),
-    strip_module(Abolished, M0, PI),
-    PI = Name/Arity,
-    atom(Name),
-    integer(Arity),
-    (   M = M0
-    ;   member((M:Name/Arity)-_, Pairs)
+    abolished(Abolished, Pairs, Predicate).
+
+%   abolished(+Abolished, +Pairs, -Predicate): of any module, or any predicate.
+
+abolished(Abolished, Pairs, Predicate) :-
+    strip_module(Abolished, _, PI),
+    (   ground(PI),
+        PI = _/_
+    ->  member((M:PI)-_, Pairs),
+        Predicate = M:PI
+    ;   Predicate = any
     ).
 
 has_atom(Term, Name) :-
