@@ -202,13 +202,15 @@ assumption_text(risk(grows, PI), Text) :-
     format(string(Text), "~q goes through a table: what it goes through does not grow meanwhile", [PI]).
 assumption_text(directive(Doubt), Text) :-
     assumption_text(Doubt, Text0),
-    format(string(Text), "in this directive, ~s, and so does what it leaves behind", [Text0]).
+    format(string(Text), "in this directive, ~s; what it leaves behind ends too", [Text0]).
 assumption_text(lasting(What), Text) :-
     format(string(Text), "~q may have goals run, or other clauses called, later: these end", [What]).
 assumption_text(hook(PI), Text) :-
     format(string(Text), "~q is called by the system: it ends whenever it is called", [PI]).
 assumption_text(shadows(PI), Text) :-
     format(string(Text), "no clause that the file adds, and that is not known, is of ~q", [PI]).
+assumption_text(unit(Name), Text) :-
+    format(string(Text), "the tests ~q are there before, and are replaced: nothing calls those", [Name]).
 assumption_text(libraries, "it says where libraries are found: those that the file uses are SWI-Prolog's").
 assumption_text(halts, "where the system halts, it runs the goals of at_halt/1: these end").
 assumption_text(quasi, "it may read a quasi quotation: the goal that reads its text ends").

@@ -30,6 +30,7 @@ module is not proved; what cti says of the pure program is.
 :- use_module(places).
 :- use_module(pure_program).
 :- use_module(real_builtins, [is_harmless_name/1, is_protected/1]).
+:- use_module(real_modules, [is_autoloaded/2]).
 :- use_module(real_source).
 :- use_module(reasons).
 :- use_module(trust).
@@ -326,10 +327,11 @@ forget_work_files(Prefix, Options) :-
 answer_predicates(Known, Predicates, Assumptions) :-
     Project = Known.project,
     own_keys(Project, Own),
-    notes_below(Known.program, Project, Known.components, Known.graph, Below),
+    notes_below(Known, Below),
     findall(Note,
             (   member(Key-_, Own), get_assoc(Key, Below, Notes), member(Note, Notes)
-            ;   member(Source, Project.sources),
+            ;   Own == [],
+                member(Source, Project.sources),
                 member(doubt(Line, Doubt), Source.doubts),
                 Note = place(file, Line, Doubt)
             ),
@@ -417,30 +419,80 @@ key_place(Key, Source, First, File, Line, Column) :-
     place_of_line(Place, First, File, Line, Column).
 
 
-%   notes_below(+Program, +Project, +Components, +Graph, -Below): the notes that
-%   each key relies on, as place(Key, Line, Doubt). Components come callees
-%   first.
+%   notes_below(+Known, -Below): the notes that each key relies on, as
+%   place(Key, Line, Doubt). Components come callees first.
 
-notes_below(Program, Project, Components, Graph, Below) :-
+notes_below(Known, Below) :-
+    _{program:Program, project:Project, components:Components, graph:Graph} :< Known,
+    early_calls(Program, Project, Graph, Early),
     findall(Key-Places,
-            ( member(predicate(Key, _, Notes), Program),
-              findall(Place, ( member(Note, Notes), place_of_note(Note, Key, Place) ), Places0),
+            ( member(predicate(Key, Clauses, Notes), Program),
+              findall(Place,
+                      (   member(Note, Notes), place_of_note(Note, Key, Place)
+                      ;   memberchk(Key, Early), first_line(Clauses, Line), Place = place(Key, Line, imported)
+                      ),
+                      Places0),
               sort(Places0, Places) ),
             Pairs),
     list_to_assoc(Pairs, Direct),
     empty_assoc(Empty),
     foldl(component_notes(Direct, Graph), Components, Empty, Below0),
     everybodys_notes(Project, Pairs, Below0, Everywhere),
-    map_assoc(relied_on(Everywhere), Below0, Below).
+    findall(Met, ( member(_-Places, Pairs), member(Met, Places), is_met(Met, Known.found.modes, Below0) ), Met0),
+    sort(Met0, AllMet),
+    map_assoc(relied_on(Everywhere, AllMet), Below0, Below).
 
-%   What a goal adds matters to others alone, and only where a directive calls it.
+first_line([], 0).
+first_line([clause(_, _, Line)|_], Line).
 
-relied_on(Everywhere, Below, Notes) :-
-    exclude(adds_clause, Below, Own),
-    ord_union(Everywhere, Own, Notes).
+%   early_calls(+Program, +Project, +Graph, -Keys): predicates of the files that a
+%   directive calls, and a library has too: if they are not there yet, the
+%   library's are imported, and the file's are refused.
 
-adds_clause(place(_, _, Doubt)) :-
-    memberchk(Doubt, [asserts, directive(asserts)]).
+early_calls(Program, Project, Graph, Keys) :-
+    (   memberchk(predicate(directives, _, _), Program)
+    ->  called_from([directives], Graph, [], Reached),
+        findall(Key,
+                ( member(Key, Reached), Key = Module:PI, is_of_roots(Key, Project), is_autoloaded(PI, Module) ),
+                Keys)
+    ;   Keys = []
+    ).
+
+called_from([], _, Reached, Reached).
+called_from([Key|Keys], Graph, Reached0, Reached) :-
+    (   ( memberchk(Key, Reached0) ; \+ get_assoc(Key, Graph, _) )
+    ->  called_from(Keys, Graph, Reached0, Reached)
+    ;   get_assoc(Key, Graph, Callees),
+        append(Callees, Keys, More),
+        called_from(More, Graph, [Key|Reached0], Reached)
+    ).
+
+%   is_met(+Place, +Modes, +Below): the doubt is of a hook that ends for all
+%   queries, and relies on nothing but that other files add no clauses that do
+%   not.
+
+is_met(place(file, _, hook(Key)), Modes, Below) :-
+    Key = _:Name/_,
+    \+ memberchk(Name, [prolog_exception_hook, prolog_event_hook, heartbeat, exception]),
+    get_assoc(Key, Modes, Found),
+    memberchk(found([], _, _), Found),
+    get_assoc(Key, Below, Notes),
+    forall(member(place(_, _, Doubt), Notes), memberchk(Doubt, [multifile, hook(Key)])).
+
+%   What a goal adds, or how the text is then read, matters to others alone, and
+%   only where a directive calls it.
+
+relied_on(Everywhere, Met, Below, Notes) :-
+    exclude(of_directives_alone, Below, Own0),
+    ord_union(Everywhere, Own0, Own),
+    ord_subtract(Own, Met, Notes).
+
+of_directives_alone(place(Key, _, Doubt)) :-
+    (   memberchk(Doubt, [asserts, directive(asserts), directive(flags)])
+    ->  true
+    ;   Doubt == flags,
+        Key \== file
+    ).
 
 %   Doubts of what the directives of the files call are everybody's, and so are
 %   those of what a goal of the files leaves behind.

@@ -1,6 +1,7 @@
 :- module(file_doubts,
           [ file_doubts/3,              % +Items, +Clauses, -Doubts
-            mentions/2                  % +Items, -Names
+            mentions/2,                 % +Items, -Names
+            leaves_waiting/1            % ?Name
           ]).
 
 /** <module> What a file sets up that is run later
@@ -75,19 +76,49 @@ only_names(Term) :-
 watched(Name) :-
     lasts(Name).
 watched(Name) :-
-    waits(Name).
+    leaves_waiting(Name).
 watched(at_halt).
 watched(thread_at_exit).
 watched(prolog_at_thread_exit).
 watched(quasi_quotation_syntax).
 
-%   Goals that wait for a variable.
+%!  leaves_waiting(?Name) is nondet.
+%
+%   What has that name leaves a goal waiting for a variable, or says what is then
+%   done.
 
-waits(freeze).
-waits(when).
-waits(dif).
-waits(put_attr).
-waits(put_attrs).
+leaves_waiting(freeze).
+leaves_waiting(when).
+leaves_waiting(dif).
+leaves_waiting(put_attr).
+leaves_waiting(put_attrs).
+leaves_waiting('$suspend').
+leaves_waiting(attr_unify_hook).
+leaves_waiting(verify_attributes).
+leaves_waiting(block).
+leaves_waiting(lazy_list).
+leaves_waiting(phrase_from_file).
+leaves_waiting(phrase_from_stream).
+
+%   What adds clauses of the file that is being loaded: from a clause, if a
+%   directive or an expansion calls it.
+
+only_while_loading(compile_aux_clauses).
+only_while_loading('$store_clause').
+only_while_loading('$add_clause').
+
+in_directive(Items, Line) :-
+    member(raw(Line, Term), Items),
+    nonvar(Term),
+    (   Term = (:- _)
+    ;   Term = (?- _)
+    ),
+    !.
+
+has_expansion(Clauses) :-
+    member((_:Name/_)-_, Clauses),
+    memberchk(Name, [term_expansion, goal_expansion]),
+    !.
 
 %   What has goals run, or clauses called, later.
 
@@ -102,7 +133,9 @@ lasts('$add_clause').
 lasts('$set_predicate_attribute').
 lasts(on_signal).
 lasts(prolog_alert_signal).
+lasts(thread_signal).
 lasts(thread_initialization).
+lasts(unload_file).
 lasts(register_iri_scheme).
 lasts(autoload_path).
 lasts(attach_packs).
@@ -118,9 +151,22 @@ file_doubts(Items, Clauses, Doubts) :-
     findall(doubt(Line, Doubt), file_doubt(Items, Clauses, Line, Doubt), Doubts0),
     sort(Doubts0, Doubts).
 
-file_doubt(Items, _, Line, lasting(Name)) :-
+file_doubt(Items, Clauses, Line, lasting(Name)) :-
     mentioned_in(Items, Line, Name),
-    lasts(Name).
+    lasts(Name),
+    \+ ( only_while_loading(Name),
+         \+ in_directive(Items, Line),
+         \+ has_expansion(Clauses) ).
+file_doubt(Items, _, Line, lasting(Name)) :-
+    member(raw(Line, Term), Items),
+    sub_term(Text, Term),
+    (   atom(Text)
+    ;   string(Text)
+    ),
+    once(sub_string(Text, _, _, _, "(")),
+    lasts(Name),
+    string_concat(Name, "(", Start),
+    once(sub_string(Text, _, _, _, Start)).
 file_doubt(Items, _, Line, lasting(monotonic)) :-
     member(directive(Line, _, Directive), Items),
     nonvar(Directive),
@@ -136,14 +182,15 @@ file_doubt(Items, _, Line, lasting(load_files)) :-
     nonvar(Option),
     Option = stream(_).
 file_doubt(_, Clauses, Line, libraries) :-
-    member((_:Name/_)-clause(Line, Head, _), Clauses),
+    member((user:Name/_)-clause(Line, Head, _), Clauses),
     searches_libraries(Name, Head).
 file_doubt(_, Clauses, Line, hook(Module:PI)) :-
     member((Module:PI)-clause(Line, Head, Body), Clauses),
     Body \== true,
     called_by_the_system(PI, Modules),
     memberchk(Module, Modules),
-    \+ other_message(Head).
+    \+ other_message(Head),
+    \+ other_exception(Head).
 
 searches_libraries(file_search_path, Head) :-
     arg(1, Head, Alias),
@@ -159,8 +206,15 @@ called_by_the_system(prolog_event_hook/1, [user, prolog]).
 called_by_the_system(prolog_trace_interception/4, [user, prolog]).
 called_by_the_system(heartbeat/0, [prolog]).
 called_by_the_system(tripwire/2, [prolog]).
-called_by_the_system(cancel_halt/1, [user, prolog]).
+called_by_the_system(exception/3, [user]).
+called_by_the_system(term_expansion/2, [user, system]).
+called_by_the_system(term_expansion/4, [user, system]).
+called_by_the_system(goal_expansion/2, [user, system]).
+called_by_the_system(goal_expansion/4, [user, system]).
 called_by_the_system(prolog_load_file/2, [user]).
+called_by_the_system(open_source_hook/3, [prolog]).
+called_by_the_system(comment_hook/3, [prolog]).
+called_by_the_system(rename_predicate/2, [prolog]).
 called_by_the_system(prolog_file_type/2, [user]).
 called_by_the_system(message_hook/3, [user]).
 called_by_the_system(thread_message_hook/3, [user]).
@@ -181,6 +235,11 @@ other_message(Head) :-
     ;   Kind = Message
     ),
     \+ memberchk(Kind, [autoload, load_file, abnormal_thread_termination, silent]).
+
+%   Where a global variable is not defined, those that ask for it call the hook.
+
+other_exception(exception(Kind, _, _)) :-
+    Kind == undefined_global_variable.
 
 message_argument(message_hook/3, 1).
 message_argument(thread_message_hook/3, 1).

@@ -11,6 +11,7 @@
             reads_terms/2,              % +Where, +Name/Arity
             keeps_terms/1,              % +Name/Arity
             runs_later/2,               % +Where, +Name/Arity
+            declares_what_it_names/1,   % +Name/Arity
             is_harmless_directive/1,    % +Goal
             is_harmless_name/1,         % +Name/Arity
             flag_kind/2,                % +Flag, -Kind
@@ -385,6 +386,7 @@ risk(PI, runs) :-
 option_list(write_term(_, Options), Options).
 option_list(write_term(_, _, Options), Options).
 option_list(write_length(_, _, Options), Options).
+option_list(term_string(_, _, Options), Options).
 option_list(thread_create(_, _, Options), Options).
 
 %!  option_goal(?Option, -Goal) is semidet.
@@ -467,8 +469,9 @@ reads_terms(read_util, PI) :-
 %   variables.
 
 keeps_terms(PI) :-
-    memberchk(PI, [ nb_getval/2, b_getval/2, nb_current/2, recorded/2, recorded/3, instance/2, trie_lookup/3, trie_gen/2,
-                    trie_gen/3, trie_gen_compiled/2, trie_gen_compiled/3, thread_peek_message/1, thread_peek_message/2 ]).
+    memberchk(PI, [ nb_getval/2, b_getval/2, nb_current/2, recorded/2, recorded/3, instance/2, trie_lookup/3,
+                    trie_gen/2, trie_gen/3, trie_gen_compiled/2, trie_gen_compiled/3, thread_peek_message/1,
+                    thread_peek_message/2 ]).
 
 %!  runs_later(+Where, +PI) is semidet.
 %
@@ -489,35 +492,50 @@ is_harmless_directive(initialization(_, When)) :-
     !,
     When == main.
 is_harmless_directive(set_prolog_flag(_, _)) :- !.
+is_harmless_directive(import(Import)) :-
+    !,
+    ground(Import).
+is_harmless_directive(expects_dialect(Dialect)) :-
+    !,
+    Dialect == swi.
 is_harmless_directive(Goal) :-
     functor(Goal, Name, Arity),
-    is_harmless_name(Name/Arity).
+    \+ ( declares_what_it_names(Name/Arity), arg(1, Goal, Declared), var(Declared) ),
+    harmless_directives(PIs),
+    memberchk(Name/Arity, PIs),
+    !.
+
+declares_what_it_names((table)/1).
+declares_what_it_names((meta_predicate)/1).
+declares_what_it_names((module_transparent)/1).
+declares_what_it_names(redefine_system_predicate/1).
 
 %!  is_harmless_name(+PI) is semidet.
 %
-%   No call of PI leaves anything behind that concerns the file's predicates.
+%   No call of PI leaves anything behind that concerns the file's predicates,
+%   whatever its arguments are.
 
 is_harmless_name(PI) :-
-    harmless_directives(PIs),
-    memberchk(PI, PIs),
-    !.
+    memberchk(PI, [ use_foreign_library/1, use_foreign_library/2, load_foreign_library/1, load_foreign_library/2,
+                    compile_predicates/1, (public)/1, (volatile)/1, noprofile/1, '$hide'/1, style_check/1, license/1 ]).
 
 harmless_directives(
-    [ (dynamic)/1, (dynamic)/2, (discontiguous)/1, (multifile)/1, (public)/1, (volatile)/1, (thread_local)/1, (table)/1,
-      (meta_predicate)/1, (module_transparent)/1, (det)/1, non_terminal/1, noprofile/1, '$hide'/1, '$clausable'/1, '$iso'/1,
-      redefine_system_predicate/1, arithmetic_function/1, residual_goals/1 ]).
+    [ (dynamic)/1, (dynamic)/2, (discontiguous)/1, (multifile)/1, (public)/1, (volatile)/1, (thread_local)/1,
+      (table)/1, (meta_predicate)/1, (module_transparent)/1, (det)/1, non_terminal/1, noprofile/1, '$hide'/1,
+      '$clausable'/1, '$iso'/1, redefine_system_predicate/1, arithmetic_function/1, residual_goals/1 ]).
 harmless_directives(
     [ module/2, module/3, use_module/1, use_module/2, autoload/1, autoload/2, reexport/1, reexport/2, ensure_loaded/1,
       consult/1, load_files/1, load_files/2, '[|]'/2, include/1, require/1, export/1, import/1, use_foreign_library/1,
-      use_foreign_library/2, load_foreign_library/1, load_foreign_library/2, compile_predicates/1, encoding/1, expects_dialect/1, op/3,
-      add_import_module/3, set_base_module/1, '$set_source_module'/1, '$set_source_module'/2, create_prolog_flag/3,
-      style_check/1, license/1, license/2, set_module/1, begin_tests/1, begin_tests/2, end_tests/1, set_test_options/1,
-      if/1, elif/1, else/0, endif/0, debug/1, nodebug/1, format_predicate/2, trust/1 ]).
+      use_foreign_library/2, load_foreign_library/1, load_foreign_library/2, compile_predicates/1, encoding/1,
+      expects_dialect/1, op/3, add_import_module/3, set_base_module/1, '$set_source_module'/1, '$set_source_module'/2,
+      create_prolog_flag/3, style_check/1, license/1, license/2, set_module/1, begin_tests/1, begin_tests/2,
+      end_tests/1, set_test_options/1, if/1, elif/1, else/0, endif/0, debug/1, nodebug/1, format_predicate/2, trust/1 ]).
 harmless_directives(
-    [ predicate_options/3, setting/4, record/1, html_meta/1, html_resource/2, http_handler/3, rdf_meta/1, rdf_register_ns/2,
-      rdf_register_ns/3, rdf_register_prefix/2, rdf_register_prefix/3, rdf_prefix/2, listen/2, listen/3, lazy_list_iterator/4,
-      quasi_quotation_syntax/1, chr_constraint/1, chr_option/2, chr_type/1, constraints/1, pce_begin_class/2,
-      pce_begin_class/3, pce_end_class/0, pce_end_class/1, pce_group/1, use_class_template/1, pce_extend_class/1 ]).
+    [ predicate_options/3, setting/4, record/1, html_meta/1, html_resource/2, http_handler/3, rdf_meta/1,
+      rdf_register_ns/2, rdf_register_ns/3, rdf_register_prefix/2, rdf_register_prefix/3, rdf_prefix/2, listen/2,
+      listen/3, lazy_list_iterator/4, quasi_quotation_syntax/1, chr_constraint/1, chr_option/2, chr_type/1,
+      constraints/1, pce_begin_class/2, pce_begin_class/3, pce_end_class/0, pce_end_class/1, pce_group/1,
+      use_class_template/1, pce_extend_class/1 ]).
 
 %!  flag_kind(+Flag, -Kind) is det.
 %
@@ -538,28 +556,30 @@ flag_kind(Flag, Kind) :-
     ).
 
 flags(reading,
-      [ double_quotes, back_quotes, character_escapes, character_escapes_unicode, rational_syntax, var_prefix, traditional, iso,
-        char_conversion, allow_dot_in_atom, allow_variable_name_as_functor, quasi_quotations, float_format ]).
+    [ double_quotes, back_quotes, character_escapes, character_escapes_unicode, rational_syntax, var_prefix,
+      traditional, iso, char_conversion, allow_dot_in_atom, allow_variable_name_as_functor, quasi_quotations,
+      float_format ]).
 flags(tabling,
-      [ max_table_subgoal_size, max_table_subgoal_size_action, max_table_answer_size, max_table_answer_size_action,
-        max_answers_for_subgoal, max_answers_for_subgoal_action, table_subsumptive, table_incremental, table_monotonic,
-        table_shared ]).
+    [ max_table_subgoal_size, max_table_subgoal_size_action, max_table_answer_size, max_table_answer_size_action,
+      max_answers_for_subgoal, max_answers_for_subgoal_action, table_subsumptive, table_incremental, table_monotonic,
+      table_shared ]).
 flags(printing, [print_write_options, write_attributes]).
 flags(none,
-      [ access_level, agc_margin, agc_close_streams, answer_format, answer_write_options, argv, autoload, bounded, c_cc, c_cflags,
-        c_ldflags, c_libplso, c_libs, color_term, debug, debug_on_error, debug_on_interrupt, debug_term_position,
-        debugger_show_context, debugger_write_options, determinism_error, editor, emacs_inferior_process, emulated_dialect,
-        encoding,
-        error_ambiguous_stream_pair, file_name_variables, file_search_cache_time, fileerrors, float_overflow, float_rounding,
-        float_undefined, float_underflow, float_zero_div, gc, gc_thread, generate_debug_info, hide, history,
-        integer_rounding_function, last_call_optimisation, max_rational_size, max_rational_size_action, message_context,
-        message_language, mitigate_spectre, occurs_check, on_error, on_warning, optimise, optimise_debug, optimise_unify, packs,
-        prefer_rationals, prompt_alternatives_on, protect_static_code, qcompile, query_debug_settings, readline, report_error,
-        sandboxed_load, shared_table_space, shift_check, signals, stack_limit, stream_type_check, table_space, tmp_dir,
-        timezone, toplevel_extra_white_line, toplevel_goal, toplevel_list_wfs_residual_program, toplevel_mode,
-        toplevel_name_variables, toplevel_print_anon, toplevel_print_factorized, toplevel_prompt, toplevel_residue_vars,
-        toplevel_var_size, trace_gc, tty_control, unknown, unload_foreign_libraries, user_flags, verbose, verbose_autoload,
-        verbose_file_search, verbose_load, vmi_builtin, warn_override_implicit_import, xpce, xref ]).
+    [ access_level, agc_margin, agc_close_streams, answer_format, answer_write_options, argv, associated_file,
+      autoload, bounded, c_cc, c_cflags, c_ldflags, c_libplso, c_libs, color_term, cpu_count, debug, debug_on_error,
+      debug_on_interrupt, debug_term_position, debugger_show_context, debugger_write_options, determinism_error, editor,
+      emacs_inferior_process, emulated_dialect, encoding, error_ambiguous_stream_pair, file_name_case_handling,
+      file_name_variables, file_search_cache_time, fileerrors, float_overflow, float_rounding, float_undefined,
+      float_underflow, float_zero_div, gc, gc_thread, generate_debug_info, hide, history, integer_rounding_function,
+      last_call_optimisation, malloc, max_rational_size, max_rational_size_action, message_context, message_language,
+      mitigate_spectre, occurs_check, on_error, on_warning, optimise, optimise_debug, optimise_unify, os_argv, packs,
+      pipe, posix_shell, prefer_rationals, prompt_alternatives_on, protect_static_code, qcompile, query_debug_settings,
+      readline, report_error, res_keep_foreign, sandboxed_load, shared_table_space, shift_check, signals, stack_limit,
+      stream_type_check, table_space, test_options, threads, tmp_dir, timezone, toplevel_extra_white_line,
+      toplevel_goal, toplevel_list_wfs_residual_program, toplevel_mode, toplevel_name_variables, toplevel_print_anon,
+      toplevel_print_factorized, toplevel_prompt, toplevel_residue_vars, toplevel_var_size, trace_gc, tty_control,
+      unknown, unload_foreign_libraries, user_flags, verbose, verbose_autoload, verbose_file_search, verbose_load,
+      vmi_builtin, warn_override_implicit_import, xpce, xref ]).
 
 %!  hooks(+PI, -Hooks) is semidet.
 %
@@ -573,8 +593,11 @@ hooks(PI, Hooks) :-
     findall(Hook, ( member(Kind, Kinds), hook(Kind, Hook) ), Hooks).
 
 hooks_of([print, attributes], [portray_clause/1, portray_clause/2, listing/0, listing/1]).
-hooks_of([print], [print/1, print/2, write_term/2, write_term/3, write_length/3, format/1, format/2, format/3, writeln/1, writeln/2, ansi_format/3]).
-hooks_of([print, message], [print_message/2, print_message_lines/3, message_to_string/2, version/1, license/1, license/2]).
+hooks_of([print],
+         [ print/1, print/2, write_term/2, write_term/3, write_length/3, term_string/3, format/1, format/2, format/3,
+           writeln/1, writeln/2, ansi_format/3 ]).
+hooks_of([print, message], [print_message/2, print_message_lines/3, message_to_string/2, license/1, license/2]).
+hooks_of([print, message, version], [version/0, version/1]).
 hooks_of([print, message, debug], [debug/3]).
 hooks_of([print, message, failed], [assertion/1]).
 hooks_of([files], [absolute_file_name/2, absolute_file_name/3, exists_source/1, exists_source/2, expand_file_search_path/2,
@@ -611,6 +634,7 @@ hook(print, user:portray_attvar/1).
 hook(print, _:attr_portray_hook/2).
 hook(attributes, _:attribute_goals/3).
 hook(message, prolog:console_color/2).
+hook(version, prolog:version_msg/1).
 
 %!  is_hook(+Predicate) is semidet.
 %

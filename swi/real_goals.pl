@@ -29,6 +29,7 @@ docs/real-files.md says for each doubt what is assumed.
 :- use_module(library(terms)).
 :- use_module(library(varnumbers)).
 :- use_module(library(yall)).
+:- use_module(file_doubts, [leaves_waiting/1]).
 :- use_module(real_builtins).
 :- use_module(real_modules).
 :- use_module(real_source).
@@ -129,7 +130,7 @@ said_of_directive(note(Line, Doubt), note(Line, directive(Doubt))) :- !.
 said_of_directive(Found, Found).
 
 context(Project, Source, Module, Line,
-        context{project:Project, source:Source, module:Module, line:Line, numbers:[], inputs:[], directive:no}).
+        context{project:Project, source:Source, module:Module, line:Line, numbers:[], inputs:[], directive:no, closure:no}).
 
 %   What tabling calls to join the answers of a predicate.
 
@@ -406,6 +407,14 @@ plain_goal(G, Context, P) -->
         note(Context, trusted(Trust))
     ;   { Context.directive == yes, Where \= own(_) }
     ->  directive_goal(G, Where, Context, P)
+    ;   { may_be_undefined(Where, G, Context, Elsewhere) }
+    ->  goal_of(Where, G, Context, P0),
+        goal_of(Elsewhere, G, Context, P1),
+        { either(P0, P1, P) }
+    ;   { shadowing(Where, G, Context, Predicate) }
+    ->  goal_of(Where, G, Context, P0),
+        goal_of(own(Predicate), G, Context, P1),
+        { either(P0, P1, P) }
     ;   goal_of(Where, G, Context, P)
     ).
 
@@ -422,8 +431,33 @@ called_predicate(exported(_, Predicate), Predicate).
 called_predicate(autoloaded(_, Predicate), Predicate).
 called_predicate(unknown(Predicate), Predicate).
 
+%   may_be_undefined(+Where, +Goal, +Context, -Elsewhere): where the file's own
+%   predicate is not defined yet, or no longer, one of SWI-Prolog's is called.
+
+may_be_undefined(own(Predicate), G, Context, Elsewhere) :-
+    (   memberchk(Predicate, Context.source.uncertain)
+    ->  true
+    ;   memberchk(any, Context.source.uncertain)
+    ),
+    functor(G, Name, Arity),
+    (   sees_imports(Context),
+        import_of(Context.source, Name/Arity, Import)
+    ->  import_where(Import, Elsewhere)
+    ;   of_the_system(G, Name/Arity, Elsewhere)
+    ).
+
+%   shadowing(+Where, +Goal, +Context, -Predicate): the file has clauses for a
+%   predicate of the module system, which are refused unless it is redefined.
+
+shadowing(builtin, G, Context, system:Name/Arity) :-
+    Context.module \== system,
+    functor(G, Name, Arity),
+    is_defined_in(Context.project, system:Name/Arity),
+    \+ is_kept(G, Context).
+
 directive_goal(G, Where, Context, P) -->
-    (   { is_harmless_directive(G) }
+    (   { is_harmless_directive(G),
+          \+ ( Where = unknown(M:_), M \== none ) }
     ->  { P = true }
     ;   { G = initialization(G1) ; G = initialization(G1, _) }
     ->  goal(G1, Context, P)
@@ -457,7 +491,9 @@ note(Context, Doubt) -->
 %   A goal that the file rewrites when it is loaded.
 
 rewritten_goal(G, Context) -->
-    (   { member(expansion(goal, Pattern), Context.source.expansions),
+    (   { Context.directive == yes, is_harmless_directive(G) }
+    ->  []
+    ;   { member(expansion(goal, Pattern), Context.source.expansions),
           \+ G \= Pattern }
     ->  note(Context, rewritten)
     ;   []
@@ -520,7 +556,14 @@ resolved(G, Context, Where) :-
     ;   own_module(Context, M),
         is_defined_here(Context, M:PI)
     ->  Where = own(M:PI)
-    ;   Context.module == system
+    ;   resolved_elsewhere(G, PI, Context, Where)
+    ).
+
+%   resolved_elsewhere(+Goal, +PI, +Context, -Where): where the module of the
+%   goal does not define it.
+
+resolved_elsewhere(G, PI, Context, Where) :-
+    (   Context.module == system
     ->  Where = builtin
     ;   \+ knows_module(Context)
     ->  Where = unknown(Context.module:PI)
@@ -530,12 +573,17 @@ resolved(G, Context, Where) :-
     ;   inherits_user(Context),
         of_user(Context, PI, Found)
     ->  Where = Found
-    ;   predicate_property(system:G, built_in)
+    ;   of_the_system(G, PI, Where)
+    ->  true
+    ;   own_name(PI, Context, Own),
+        Where = unknown(Own)
+    ).
+
+of_the_system(G, PI, Where) :-
+    (   predicate_property(system:G, built_in)
     ->  Where = builtin
     ;   index(PI, Module, Path)
     ->  Where = autoloaded(Path, Module:PI)
-    ;   own_name(PI, Context, Own),
-        Where = unknown(Own)
     ).
 
 is_defined_here(Context, Predicate) :-
@@ -684,7 +732,11 @@ builtin(system, G, Context, true) -->
     { functor(G, Name, Arity),
       risk(Name/Arity, Risk) },
     !,
-    note(Context, risk(Risk, Name/Arity)).
+    note(Context, risk(Risk, Name/Arity)),
+    (   { Risk == imports, \+ names_import(G) }
+    ->  note(Context, lasting(Name))
+    ;   []
+    ).
 builtin(Where, G, Context, P) -->
     { results(Where, G, Xs) ; is_quiet(Where, G), Xs = [] },
     !,
@@ -695,6 +747,8 @@ builtin(Where, G, Context, P) -->
     module_note(Where, G, Context),
     (   { Where == system, adds_unknown_clause(G, Context.module) }
     ->  note(Context, asserts)
+    ;   { Where == system, Context.closure == yes, sets_reading_flag(G) }
+    ->  note(Context, flags)            % real_source finds those that stand in the text
     ;   []
     ),
     hook_calls(G, Context, P0),
@@ -704,7 +758,29 @@ builtin(Where, G, Context, P) -->
       both(P01, P2, P) }.
 builtin(_, G, Context, true) -->
     { functor(G, Name, Arity) },
-    note(Context, external(system:Name/Arity)).
+    note(Context, external(system:Name/Arity)),
+    (   { declares_what_it_names(Name/Arity),
+          arg(1, G, Specs),
+          var(Specs) }                  % what is declared does not stand in the text
+    ->  note(Context, lasting(Name))
+    ;   []
+    ).
+
+sets_reading_flag(G) :-
+    (   G = set_prolog_flag(Flag0, _)
+    ;   G = create_prolog_flag(Flag0, _, _)
+    ),
+    strip_module(Flag0, _, Flag),
+    flag_kind(Flag, Kind),
+    memberchk(Kind, [any, reading]).
+
+%   What is imported for good, and from where, stands in the text.
+
+names_import(import(Import)) :-
+    ground(Import).
+names_import(add_import_module(Module, _, _)) :-
+    atom(Module).
+names_import(set_base_module(_)).
 
 result(X, P0, P) :-
     pure_term(X, Y),
@@ -737,11 +813,12 @@ text_note(G, Context) -->
         ;   { format_options(G, Text, Options) }
         ->  find_options(Options, Context)
         ;   note(Context, text)
-        ),
-        (   { has_letters(Context) }
-        ->  note(Context, letter)
-        ;   []
         )
+    ;   []
+    ),
+    (   { has_letters(Context),
+          ( format_text(G, _) ; prints(G) ) }
+    ->  note(Context, letter)
     ;   []
     ).
 
@@ -862,8 +939,9 @@ term_note(Where, G, Context) -->
     ->  note(Context, quasi)
     ;   { Where == system,
           keeps_terms(Name/Arity),
-          member(Waiting, [freeze, when, dif, put_attr, put_attrs]),
-          mentions(Context, Waiting) }
+          concerned_source(Context, Concerned),
+          member(Waiting, Concerned.mentions),
+          leaves_waiting(Waiting) }
     ->  note(Context, kept(Name/Arity))
     ;   []
     ).
@@ -1031,7 +1109,7 @@ applied(M:C, Xs, Context, P) -->
     (   { lambda_term(C) }
     ->  lambda(C, Xs, M, Context, P)
     ;   { with_arguments(C, Xs, G) }
-    ->  goal_in(M, G, Context, P)
+    ->  goal_in(M, G, Context.put(closure, yes), P)
     ;   { P = true },
         note(Context, goal)
     ).

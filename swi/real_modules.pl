@@ -9,7 +9,8 @@
             import_of/3,                % +Source, +PI, -Import
             selected/4,                 % ?Selection, +Exports, +PI, -Real
             index/3,                    % +PI, -Module, -Path
-            is_library_module/1         % +Module
+            is_library_module/1,        % +Module
+            is_autoloaded/2             % +Name/Arity, +Module
           ]).
 
 /** <module> Which file has the clauses of a predicate
@@ -232,6 +233,16 @@ exports(Exports, Name/Arity) :-
 index(PI, Module, Path) :-
     ensure_index,
     kept_index(PI, Module, Path),
+    !.
+
+%!  is_autoloaded(+PI, +Module) is semidet.
+%
+%   A library other than Module has PI, and is loaded when it is called.
+
+is_autoloaded(PI, Module) :-
+    ensure_index,
+    kept_index(PI, Library, _),
+    Library \== Module,
     !.
 
 %!  is_library_module(+Module) is semidet.

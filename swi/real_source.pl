@@ -41,6 +41,8 @@ file, and Path:Number in any other. A source is a dict:
 | redefined   | the predicates that stand for built-in ones of their names  |
 | letters     | `yes` where the file may define letters of format/2         |
 | expansions  | expansion(Kind,Pattern): what the file rewrites when loaded |
+| uncertain   | those that may be without any definition when they are called, |
+|             | or `any`                                                    |
 | doubts      | doubt(Line,Doubt): what was not understood of the file      |
 | adds        | doubt(Line,asserts): where it adds a clause that is not     |
 |             | known                                                       |
@@ -169,7 +171,7 @@ line_place(First, Path, Place) :-
 first_state(Path, Place, Scratch, State) :-
     gensym('real source ', Scratch),
     State = state{path:Path, module:user, file_module:user, scratch:Scratch, double_quotes:string, back_quotes:codes,
-                  conditions:[], flags:[], chr:no, included:no, place:Place, loaded:[user-Path], within:directive}.
+                  conditions:[], flags:[], units:[], chr:no, included:no, place:Place, loaded:[user-Path], within:directive}.
 
 loaded_texts(State, Texts) :-
     pairs_values(State.loaded, Texts).
@@ -612,6 +614,10 @@ changes_reading(Goal) :-
     compound_name_arity(Goal, Name, Arity),
     (   memberchk(Name/Arity, [op/3, set_prolog_flag/2, create_prolog_flag/3, add_import_module/3, set_base_module/1])
     ->  true
+    ;   nested_declaration(Goal, _, _)
+    ->  true
+    ;   memberchk(Name/Arity, ['$set_source_module'/1, '$set_source_module'/2])
+    ->  true
     ;   Goal = prolog_load_context(Key, _)
     ->  \+ Key \= stream
     ;   Goal = import(Import)
@@ -625,8 +631,18 @@ changes_reading(Goal) :-
         \+ ( Name == autoload, atom(Spec) )        % an option
     ).
 
+changes_module(_, prolog_load_context(_, _)).
+changes_module(clause(_), '$set_source_module'(_)).
+changes_module(clause(_), '$set_source_module'(_, _)).
+
+%   A declaration that a goal makes may be made or not.
+
+nested_declaration(Goal, Kind, Specs) :-
+    declaration(Goal, Kind, Specs),
+    memberchk(Kind, [tabled, meta, arithmetic, redefined, transparent]).
+
 may_run(Term, Line, Goal, State0-Items, State-Rest) :-
-    (   Goal = prolog_load_context(_, _)        % it may read more of the text
+    (   changes_module(Term, Goal)      % or it may read more of the text
     ->  flag_item(reading, _, Line, Item),
         flag_items(Term, reading, Item, Line, Items, Rest),
         State = State0
@@ -638,6 +654,9 @@ may_run(Term, Line, Goal, State0-Items, State-Rest) :-
         ->  flag_items(Term, Kind, Item, Line, Items, Rest)
         ;   Items = Rest
         ),
+        State = State0
+    ;   nested_declaration(Goal, Kind, Specs)
+    ->  declared_items(Kind, Specs, State0.module, State0.put(conditions, [maybe]), Items, Rest),
         State = State0
     ;   within(Term, Within),
         obeyed(Goal, Line, none, State0.put(within, Within), State1, Items, Rest)
@@ -684,6 +703,8 @@ obeyed(module(Module, Exports, _), Line, In, State0, State, Items, Rest) :-
 obeyed('$set_source_module'(Module), _, _, State0, State, Rest, Rest) :-
     atom(Module),
     State = State0.put(_{module:Module, file_module:Module}).
+obeyed('$set_source_module'(Module), Line, _, State, State, [doubt(Line, flags)|Rest], Rest) :-
+    var(Module).
 obeyed('$set_source_module'(_, Module), Line, In, State0, State, Items, Rest) :-
     obeyed('$set_source_module'(Module), Line, In, State0, State, Items, Rest).
 obeyed(op(P, T, N), _, _, State, State, Rest, Rest) :-
@@ -720,10 +741,14 @@ obeyed(include(Spec), Line, _, State0, State, Items, Rest) :-
     ;   State = State0,
         Items = [doubt(Line, include(Spec))|Rest]
     ).
-obeyed(begin_tests(Name), _, _, State0, State, Rest, Rest) :-
+obeyed(begin_tests(Name), Line, _, State0, State, Items, Rest) :-
     atom(Name),
     atom_concat(plunit_, Name, Module),
-    State = State0.put(module, Module).
+    State = State0.put(_{module:Module, units:[Name|State0.units]}),
+    (   memberchk(Name, State0.units)
+    ->  Items = [doubt(Line, unit(Name))|Rest]
+    ;   Items = Rest
+    ).
 obeyed(begin_tests(Name, _), Line, In, State0, State, Items, Rest) :-
     obeyed(begin_tests(Name), Line, In, State0, State, Items, Rest).
 obeyed(end_tests(_), _, _, State0, State, Rest, Rest) :-
@@ -782,7 +807,9 @@ flag_item(printing, _, _, flag(printing)).
 declared_items(Kind, Specs, Module, State, Items, Rest) :-
     findall(Item, declared(Kind, Specs, Module, Item), Declared),
     (   memberchk(maybe, State.conditions)
-    ->  findall(conditional(P), ( member(meta(P, _), Declared) ; member(redefined(P), Declared) ), Conditional)
+    ->  findall(conditional(P),
+                ( member(meta(P, _), Declared) ; member(redefined(P), Declared) ; member(transparent(P), Declared) ),
+                Conditional)
     ;   Conditional = []
     ),
     append(Declared, More, Items),
@@ -1055,6 +1082,7 @@ text_source(Wide, text(Path, Texts, Operators, Items), Source) :-
     collected(P, member(dynamic(P), Items), Dynamic0),
     collected(P, member(dynamic(P), Asserted), Dynamic1),
     ord_union_(Dynamic0, Dynamic1, Dynamic),
+    collected(P, uncertain(Items, Pairs0, Dynamic1, P), Uncertain),
     collected(P, member(multifile(P), Items), Multifile),
     collected(P, member(conditional(P), Items), Conditional),
     collected(P-K, member(tabled(P, K), Items), Tabled),
@@ -1102,8 +1130,38 @@ text_source(Wide, text(Path, Texts, Operators, Items), Source) :-
                     imports:Imports, reexports:Reexports, arithmetic:Arithmetic, redefined:Redefined,
                     transparent:Transparent,
                     expansions:Expansions, letters:Letters,
-                    doubts:Doubts, unread:Unread, adds:Adds, directives:Directives, mentions:Mentions, flags:Flags,
-                    joins:Joins}.
+                    uncertain:Uncertain, doubts:Doubts, unread:Unread, adds:Adds, directives:Directives,
+                    mentions:Mentions, flags:Flags, joins:Joins}.
+
+%   uncertain(+Items, +Pairs, +Dynamic, -Predicate): nothing but goals that may
+%   not have run yet makes Predicate, or a goal abolishes it.
+
+uncertain(Items, Pairs, Dynamic, Predicate) :-
+    member(Predicate, Dynamic),
+    \+ memberchk(Predicate-_, Pairs),
+    \+ memberchk(dynamic(Predicate), Items),
+    \+ memberchk(multifile(Predicate), Items).
+uncertain(Items, Pairs, _, Predicate) :-
+    member(raw(_, Term), Items),
+    sub_term(Goal, Term),
+    nonvar(Goal),
+    (   Goal = abolish(Abolished)
+    ->  true
+    ;   Goal = abolish(Name, Arity),
+        Abolished = Name/Arity
+    ),
+    abolished(Abolished, Pairs, Predicate).
+
+%   abolished(+Abolished, +Pairs, -Predicate): of any module, or any predicate.
+
+abolished(Abolished, Pairs, Predicate) :-
+    strip_module(Abolished, _, PI),
+    (   ground(PI),
+        PI = _/_
+    ->  member((M:PI)-_, Pairs),
+        Predicate = M:PI
+    ;   Predicate = any
+    ).
 
 has_atom(Term, Name) :-
     sub_term(Sub, Term),
