@@ -897,7 +897,7 @@ listed_options(G, Context, P) -->
     ->  options(Options, Context, P)
     ;   { P = true }
     ),
-    (   { prints(G), memberchk(printing, Context.main.flags) }
+    (   { memberchk(printing, Context.main.flags), ( prints(G) ; writes(G) ) }
     ->  note(Context, options)
     ;   []
     ).
@@ -907,6 +907,12 @@ prints(G) :-
     hooks(Name/Arity, Hooks),
     memberchk(user:portray/1, Hooks),
     !.
+
+%   What asks the flag write_attributes alone.
+
+writes(G) :-
+    functor(G, Name, _),
+    memberchk(Name, [write, writeq]).
 
 options(Options0, Context, P) -->
     { nonvar(Options0) },
