@@ -964,7 +964,7 @@ listed_options(G, Context, P) -->
     ->  options(Options, Context, P)
     ;   { P = true }
     ),
-    (   { prints(G), sets_flag(Context, printing) }
+    (   { sets_flag(Context, printing), ( prints(G) ; writes(G) ) }
     ->  note(Context, options)
     ;   []
     ).
@@ -974,6 +974,12 @@ prints(G) :-
     hooks(Name/Arity, Hooks),
     memberchk(user:portray/1, Hooks),
     !.
+
+%   What asks the flag write_attributes alone.
+
+writes(G) :-
+    functor(G, Name, _),
+    memberchk(Name, [write, writeq]).
 
 options(Options0, Context, P) -->
     { nonvar(Options0) },

@@ -807,6 +807,15 @@ case(flag_closure, p/1, no_mode,
 p(X) :- X = \"ab\", q(X).\n\
 q(X) :- is_list(X), q(X).\n\
 q(X) :- string(X).\n").
+case(attributes_written, p/0, options,
+     ":- set_prolog_flag(write_attributes, portray).\n\
+p :- put_attr(X, mm, v), write(X).\n\
+mm:attr_portray_hook(A, B) :- mm:attr_portray_hook(A, B).\n").
+case(hook_that_asserts, p/1, no_mode,
+     ":- dynamic q/1.\n\
+:- multifile user:message_hook/3.\n\
+user:message_hook(_, _, _) :- assertz((q(X) :- q(X))), fail.\n\
+p(X) :- print_message(silent, x), q(X).\n").
 
 :- end_tests(no_wrong_mode).
 
