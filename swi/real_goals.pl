@@ -130,7 +130,8 @@ said_of_directive(note(Line, Doubt), note(Line, directive(Doubt))) :- !.
 said_of_directive(Found, Found).
 
 context(Project, Source, Module, Line,
-        context{project:Project, source:Source, module:Module, line:Line, numbers:[], inputs:[], directive:no, closure:no}).
+        context{project:Project, source:Source, module:Module, line:Line, numbers:[], inputs:[], directive:no,
+                closure:no}).
 
 %   What tabling calls to join the answers of a predicate.
 
@@ -267,7 +268,11 @@ argument_of(Args, I, Arg) :-
 
 read_places(Real, Places) :-
     findall(I,
-            ( member(clause(_, Head, Body), Real), compound(Head), arg(I, Head, Arg), var(Arg), made_as_text(Body, Arg) ),
+            ( member(clause(_, Head, Body), Real),
+              compound(Head),
+              arg(I, Head, Arg),
+              var(Arg),
+              made_as_text(Body, Arg) ),
             Made0),
     sort(Made0, Made),
     include(is_read(Real), Made, Places).

@@ -258,7 +258,9 @@ ensure_index :-
 ensure_index :-
     forall(( absolute_file_name(library('INDEX'), Index, [extensions([pl]), access(read), solutions(all)]),
              file_directory_name(Index, Directory),
-             setup_call_cleanup(open(Index, read, In, [encoding(utf8)]), index_entry(In, Name, Arity, Module, File), close(In)) ),
+             setup_call_cleanup(open(Index, read, In, [encoding(utf8)]),
+                                index_entry(In, Name, Arity, Module, File),
+                                close(In)) ),
            ( format(atom(Path), "~w/~w.pl", [Directory, File]),
              assertz(kept_index(Name/Arity, Module, Path)) )).
 

@@ -171,7 +171,8 @@ line_place(First, Path, Place) :-
 first_state(Path, Place, Scratch, State) :-
     gensym('real source ', Scratch),
     State = state{path:Path, module:user, file_module:user, scratch:Scratch, double_quotes:string, back_quotes:codes,
-                  conditions:[], flags:[], units:[], chr:no, included:no, place:Place, loaded:[user-Path], within:directive}.
+                  conditions:[], flags:[], units:[], chr:no, included:no, place:Place, loaded:[user-Path],
+                  within:directive}.
 
 loaded_texts(State, Texts) :-
     pairs_values(State.loaded, Texts).
@@ -1125,7 +1126,8 @@ text_source(Wide, text(Path, Texts, Operators, Items), Source) :-
     ->  Letters = yes
     ;   Letters = no
     ),
-    Source = source{path:Path, texts:Texts, operators:Operators, module:Module, exports:Exports, clauses:Clauses, dynamic:Dynamic,
+    Source = source{path:Path, texts:Texts, operators:Operators, module:Module, exports:Exports, clauses:Clauses,
+                    dynamic:Dynamic,
                     multifile:Multifile, conditional:Conditional, tabled:Tabled, meta:Meta,
                     imports:Imports, reexports:Reexports, arithmetic:Arithmetic, redefined:Redefined,
                     transparent:Transparent,
@@ -1206,7 +1208,8 @@ own_expansion(Path, Pairs, Module, Kind, Pattern) :-
     expansion_of(Pairs, [user, system, Module], Kind, Pattern).
 
 %   What these modules of the library rewrite of their own was looked at.
-%   apply: facts for library(sandbox) come of it. clpfd: its three facts become clauses of predicates that have none in the
+%   apply: facts for library(sandbox) come of it. clpfd: its three facts become
+%   clauses of predicates that have none in the
 %   text; constraints become tests before the call of the constraint; (cis)/2
 %   and its like are not defined, so they are assumed to end.
 
