@@ -33,7 +33,7 @@ docs/continuous-integration.md says what each form has.
 
 %!  report_version(-Version) is det.
 
-report_version('0.3').
+report_version('0.4').
 
 %!  write_report(+Format, +Report:dict) is det.
 %

@@ -301,7 +301,7 @@ test(each_line_has_a_place) :-
 
 %   Facts of a file before, and its text now.
 
-app_facts("cti_file(1, '0.3').\nfile('a.pl').\npredicate('a.pl', app/3, 1, 1, local).\n").
+app_facts("cti_file(1, '0.4').\nfile('a.pl').\npredicate('a.pl', app/3, 1, 1, local).\n").
 
 %   now(+Modes, +Text, -Status, -Err): Modes are of before.
 
