@@ -3,7 +3,7 @@
 
 usage: tools/crates.py            the crates by floor: a crate stands one floor above the highest of those that it
                                   depends on
-       tools/crates.py --write    writes the tables of crates and of dependencies into the page
+       tools/crates.py --write    writes the tables of crates and the list of dependencies into the page
        tools/crates.py --check    says what of the page is not so, which dependencies nothing of a crate names, and
                                   which definitions pages name by a path that is not there
 
@@ -102,28 +102,26 @@ def nearest(crates):
     }
 
 
-def dependency_table(crates):
+def dependency_list(crates):
     """The nearest dependencies of each crate, from the highest floor down."""
     near, high = nearest(crates), floors(crates)
-    lines = ["| Floor | Crate | Depends on |", "|---|---|---|"]
-    for name in sorted(crates, key=lambda name: -high[name]):
-        needs = ", ".join(f"`{other}`" for other in near[name])
-        lines.append(f"| {high[name]} | `{name}` | {needs or '-'} |")
-    return "\n".join(lines)
+    names = sorted(crates, key=lambda name: -high[name])
+    lines = [f"{high[name]:2} {name}: {' '.join(near[name])}".rstrip() for name in names]
+    return "\n".join(["```", *lines, "```"])
 
 
 def made(text, groups, crates):
     """The page with its made parts as they should be."""
-    tables = {
+    parts = {
         "crates": crate_tables(groups, rows_of(text), costs(crates)),
-        "dependencies": dependency_table(crates),
+        "dependencies": dependency_list(crates),
     }
     for part in PARTS:
         before, begin, rest = text.partition(BEGIN.format(part))
         _, end, after = rest.partition(END.format(part))
         if not end:
             sys.exit(f"{page.relative_to(top)}: no part between '{BEGIN.format(part)}' and '{END.format(part)}'")
-        text = f"{before}{begin}\n\n{tables[part]}\n\n{end}{after}"
+        text = f"{before}{begin}\n\n{parts[part]}\n\n{end}{after}"
     return text
 
 
