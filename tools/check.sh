@@ -25,9 +25,13 @@ rt ci | tee "$said" || failed+=("rt ci")
 pass python3 -B tools/test_build.py
 pass python3 -B tools/test_run_cases.py
 pass python3 -B tools/test_dist.py
+pass python3 -B tools/test_crates.py
+pass python3 -B tools/test_commits.py
 pass tools/proved.py
 pass tools/crates.py --check
 pass tools/believe.py --check
+# Commits that have landed cannot be changed, so their first lines fail nothing.
+tools/commits.py --count
 if is_new bin/cti; then
     pass tools/run_cases.py bin/cti
     is_new bin/cti-unproved && pass tools/run_cases.py bin/cti bin/cti-unproved
