@@ -152,7 +152,7 @@ made_term(T, L, R) :-
     nonvar(T),
     !,
     compound(T),
-    T =.. [_|Xs],
+    compound_name_arguments(T, _, Xs),
     nonvar(L),
     L = [_|Ys],
     R = (Xs = Ys).
