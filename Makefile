@@ -9,9 +9,10 @@ JOBS ?= $(shell nproc)
 PROGRAM ?= bin/cti
 SHARE = $(DESTDIR)$(PREFIX)/share
 MANUAL = $(SHARE)/man/man1/cti.1
-BASH_COMPLETION = $(SHARE)/bash-completion/completions/cti
-ZSH_COMPLETION = $(SHARE)/zsh/site-functions/_cti
-FISH_COMPLETION = $(SHARE)/fish/vendor_completions.d/cti.fish
+BASH_COMPLETIONS = $(SHARE)/bash-completion/completions
+ZSH_COMPLETIONS = $(SHARE)/zsh/site-functions
+FISH_COMPLETIONS = $(SHARE)/fish/vendor_completions.d
+COMMANDS = cti cti-file
 FILE_MANUAL = $(SHARE)/man/man1/cti-file.1
 CONVERTER = $(SHARE)/cti/swi
 # The modules of swi/, without their tests and what describes the pack.
@@ -41,9 +42,9 @@ install-files:
 	@! $(PROGRAM) --version 2>&1 | grep -q 'not proved' || { echo '$(PROGRAM) is not proved: make bin/cti' >&2; exit 1; }
 	install -D -m 755 $(PROGRAM) $(DESTDIR)$(PREFIX)/bin/cti
 	install -D -m 644 man/cti.1 $(MANUAL)
-	install -D -m 644 completions/cti.bash $(BASH_COMPLETION)
-	install -D -m 644 completions/_cti $(ZSH_COMPLETION)
-	install -D -m 644 completions/cti.fish $(FISH_COMPLETION)
+	for it in $(COMMANDS); do install -D -m 644 completions/$$it.bash $(BASH_COMPLETIONS)/$$it || exit 1; done
+	for it in $(COMMANDS); do install -D -m 644 completions/_$$it $(ZSH_COMPLETIONS)/_$$it || exit 1; done
+	for it in $(COMMANDS); do install -D -m 644 completions/$$it.fish $(FISH_COMPLETIONS)/$$it.fish || exit 1; done
 	for it in $(CONVERTER_FILES); do install -D -m 644 $$it $(CONVERTER)/$${it#swi/} || exit 1; done
 	install -D -m 755 swi/cti-file $(CONVERTER)/cti-file
 	install -D -m 755 tools/installed-cti-file $(DESTDIR)$(PREFIX)/bin/cti-file
@@ -61,7 +62,8 @@ install-release:
 	xz -dc $(RELEASE) | tar -xf - -C $(DESTDIR)$(PREFIX) --strip-components=1 --no-same-owner
 
 uninstall:
-	rm -f $(DESTDIR)$(PREFIX)/bin/cti $(MANUAL) $(BASH_COMPLETION) $(ZSH_COMPLETION) $(FISH_COMPLETION)
+	rm -f $(DESTDIR)$(PREFIX)/bin/cti $(MANUAL) $(COMMANDS:%=$(BASH_COMPLETIONS)/%)
+	rm -f $(COMMANDS:%=$(ZSH_COMPLETIONS)/_%) $(COMMANDS:%=$(FISH_COMPLETIONS)/%.fish)
 	rm -f $(DESTDIR)$(PREFIX)/bin/cti-file $(DESTDIR)$(PREFIX)/bin/cti-hold $(FILE_MANUAL)
 	rm -rf $(SHARE)/cti $(SHARE)/doc/cti
 
