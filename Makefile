@@ -1,7 +1,7 @@
 # `make install-release` installs the proved program of the last version, which lies in release/; it needs no toolchain.
 # `make quick` makes bin/cti-unproved, the program before any proof. `make` proves the crates, builds bin/cti and shows
 # it at work; `make JOBS=2` proves on two processors; `make check` passes every proof, wrong edit, test and comparison;
-# `make install` copies the program, its manual page, the completions of three shells and the converter of real files,
+# `make install` copies the program, its pages, the completions of three shells and the converter of real files,
 # and `make uninstall` removes what was installed. `make dist` makes the release of this version, and
 # `make check-release` builds it anew and compares.
 PREFIX ?= /usr/local
@@ -52,7 +52,7 @@ install-files:
 	sed s/cti-file/cti-hold/g tools/installed-cti-file > $(DESTDIR)$(PREFIX)/bin/cti-hold
 	chmod 755 $(DESTDIR)$(PREFIX)/bin/cti-hold
 	install -D -m 644 man/cti-file.1 $(FILE_MANUAL)
-	for it in $(LICENCES); do install -D -m 644 $$it $(SHARE)/doc/cti/$$it || exit 1; done
+	for it in $(LICENCES) $(wildcard docs/*.md); do install -D -m 644 -t $(SHARE)/doc/cti $$it || exit 1; done
 
 # It needs sha256sum, tar and xz alone.
 install-release:
