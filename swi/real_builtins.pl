@@ -175,7 +175,8 @@ made_compound(T, F, Xs, R) :-
         R = (T = Made)
     ).
 
-sorted_by(P, L, S, ( find((prelude(member(X, L)), prelude(member(Y, L)), goal(call(P, _, X, Y)))), prelude(sort(L, S)) )).
+sorted_by(P, L, S,
+          ( find((prelude(member(X, L)), prelude(member(Y, L)), goal(call(P, _, X, Y)))), prelude(sort(L, S)) )).
 
 phrase_goal(Body, _, _, _) :-
     var(Body),
@@ -345,8 +346,9 @@ quiet(error, [must_be/2, is_of_type/2, is_list_or_partial/1]).
 quiet(prolog_debug, [debug/1, debug/3, nodebug/1, debugging/1, debugging/2, debug_message_context/1]).
 quiet(gensym, [gensym/2, reset_gensym/1, reset_gensym/0]).
 quiet(read_util,
-      [ read_line_to_string/2, read_line_to_codes/2, read_line_to_codes/3, read_stream_to_codes/2, read_stream_to_codes/3,
-        read_term_from_atom/3, read_file_to_codes/3, read_file_to_string/3, read_file_to_terms/3 ]).
+      [ read_line_to_string/2, read_line_to_codes/2, read_line_to_codes/3, read_stream_to_codes/2,
+        read_stream_to_codes/3, read_term_from_atom/3, read_file_to_codes/3, read_file_to_string/3,
+        read_file_to_terms/3 ]).
 quiet(random, [random/1, random_between/3, random/3, set_random/1, random_member/2, random_permutation/2]).
 quiet(lists, [numlist/3]).
 quiet(backward_compatibility, [concat_atom/2, concat_atom/3]).
@@ -370,13 +372,14 @@ risk(PI, grows) :-
     memberchk(PI, [current_atom/1, current_blob/2, current_functor/2, thread_property/2]).
 risk(PI, runs) :-
     memberchk(PI,
-              [ frozen/2, call_continuation/1, shift/1, shift_for_copy/1, reset/3, engine_next/2, engine_next_reified/2,
-                engine_post/2, engine_post/3, engine_yield/1, engine_fetch/1, prolog/0, break/0, '<meta-call>'/1, tabled_call/1,
-                expand_goal/2, expand_goal/4, expand_term/2, expand_term/4, compile_aux_clauses/1, copy_predicate_clauses/2,
-                unload_file/1, initialize/0, '.'/3, start_subsumptive_tabling/3, prolog_alert_signal/2, format_predicate/2,
-                thread_signal/2, profiler/2, read_term_with_history/2, wait_for_input/3, prolog_interrupt/0,
-                copy_term/3, copy_term/4, undo/1, transaction/2, transaction/3, transaction_updates/1, thread_get_message/1,
-                thread_get_message/2, thread_get_message/3, get/3, get_dict/5, message_queue_create/3, tnot/1 ]).
+              [ frozen/2, call_continuation/1, shift/1, shift_for_copy/1, reset/3, engine_next/2,
+                engine_next_reified/2, engine_post/2, engine_post/3, engine_yield/1, engine_fetch/1, prolog/0,
+                break/0, '<meta-call>'/1, tabled_call/1, expand_goal/2, expand_goal/4, expand_term/2, expand_term/4,
+                compile_aux_clauses/1, copy_predicate_clauses/2, unload_file/1, initialize/0, '.'/3,
+                start_subsumptive_tabling/3, prolog_alert_signal/2, format_predicate/2, thread_signal/2, profiler/2,
+                read_term_with_history/2, wait_for_input/3, prolog_interrupt/0, copy_term/3, copy_term/4, undo/1,
+                transaction/2, transaction/3, transaction_updates/1, thread_get_message/1, thread_get_message/2,
+                thread_get_message/3, get/3, get_dict/5, message_queue_create/3, tnot/1 ]).
 
 %!  option_list(+Goal, -Options) is semidet.
 %
@@ -529,7 +532,8 @@ harmless_directives(
       use_foreign_library/2, load_foreign_library/1, load_foreign_library/2, compile_predicates/1, encoding/1,
       expects_dialect/1, op/3, add_import_module/3, set_base_module/1, '$set_source_module'/1, '$set_source_module'/2,
       create_prolog_flag/3, style_check/1, license/1, license/2, set_module/1, begin_tests/1, begin_tests/2,
-      end_tests/1, set_test_options/1, if/1, elif/1, else/0, endif/0, debug/1, nodebug/1, format_predicate/2, trust/1 ]).
+      end_tests/1, set_test_options/1, if/1, elif/1, else/0, endif/0, debug/1, nodebug/1, format_predicate/2,
+      trust/1 ]).
 harmless_directives(
     [ predicate_options/3, setting/4, record/1, html_meta/1, html_resource/2, http_handler/3, rdf_meta/1,
       rdf_register_ns/2, rdf_register_ns/3, rdf_register_prefix/2, rdf_register_prefix/3, rdf_prefix/2, listen/2,
@@ -600,8 +604,8 @@ hooks_of([print, message], [print_message/2, print_message_lines/3, message_to_s
 hooks_of([print, message, version], [version/0, version/1]).
 hooks_of([print, message, debug], [debug/3]).
 hooks_of([print, message, failed], [assertion/1]).
-hooks_of([files], [absolute_file_name/2, absolute_file_name/3, exists_source/1, exists_source/2, expand_file_search_path/2,
-                   read_file_to_codes/3, read_file_to_string/3, read_file_to_terms/3]).
+hooks_of([files], [absolute_file_name/2, absolute_file_name/3, exists_source/1, exists_source/2,
+                   expand_file_search_path/2, read_file_to_codes/3, read_file_to_string/3, read_file_to_terms/3]).
 hooks_of([type], [must_be/2, is_of_type/2]).
 hooks_of([globals], [nb_getval/2, b_getval/2]).
 
