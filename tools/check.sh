@@ -28,6 +28,7 @@ pass python3 -B tools/test_dist.py
 pass python3 -B tools/test_crates.py
 pass python3 -B tools/test_commits.py
 pass python3 -B tools/test_completions.py
+pass python3 -B tools/test_gate_page.py
 pass tools/proved.py
 pass tools/crates.py --check
 pass tools/believe.py --check
