@@ -34,7 +34,7 @@ bin/cti-unproved: $(SOURCES) tools/quick.py
 	@tools/run_cases.py bin/cti-unproved
 
 check:
-	@tools/check.sh
+	@.ci/run
 
 install: $(PROGRAM) install-files
 

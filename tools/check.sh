@@ -1,14 +1,12 @@
 #!/usr/bin/env bash
-# check.sh: the gate, `rt ci`, and then what needs no proof: the tests of the tools, and whether the pages say what is
-# so. Where bin/cti is there and newer than the crates, the cases and the commands of the pages go through it too, and
-# with SWI-Prolog the tests of swi/. The last line is the one of the gate, and the status that of the whole.
+# check.sh: what needs no proof, which .ci/run does after the gate: the tests of the tools, and whether the pages say
+# what is so. Where bin/cti is there and newer than the crates, the cases and the commands of the pages go through it
+# too, and with SWI-Prolog the tests of swi/. The status is 0 where all of it passes.
 #
 #     tools/check.sh
 set -u -o pipefail
 cd "$(dirname "$0")/.." || exit 2
 failed=()
-said=$(mktemp)
-trap 'rm -f "$said"' EXIT
 
 # Runs a command, and notes it if it fails.
 pass() {
@@ -21,7 +19,6 @@ is_new() {
     [ -x "$1" ] && make -q "$1" 2> /dev/null
 }
 
-rt ci | tee "$said" || failed+=("rt ci")
 pass python3 -B tools/test_build.py
 pass python3 -B tools/test_run_cases.py
 pass python3 -B tools/test_dist.py
@@ -43,5 +40,4 @@ else
     echo "== bin/cti is not there, or older than the crates: nothing is tried with it"
 fi
 for it in "${failed[@]}"; do echo "failed: $it"; done
-tail -n 1 "$said"
 [ ${#failed[@]} = 0 ]
