@@ -3,7 +3,7 @@ use Rattle.std.proofs.Common.{◌≡◌, ℕ, zero, suc, ◌+◌, ◌*◌, ℤ, 
 use Rattle.std.specs.List.{AllByRecursion}
 use Rattle.std.proofs.lemmas.Int.{ints}
 use Rattle.exact128.specs.Sums.{dot}
-use Rattle.linear_rows.specs.Rows.{Holds, HoldsOn}
+use Rattle.linear_rows.specs.Rows.{Holds, HoldsOn, AreEmpty}
 use Rattle.linear_rows.specs.Replacing.{substituted}
 use Rattle.linear_rows.specs.RowSums.{scaled, added}
 use Rattle.cti_terms.specs.Tree.{Tree, is_below}
@@ -149,19 +149,22 @@ module _ (o : Option Arith) (c : Claims) (are : AreColumns o c.truth c.columns) 
   at_point : (row : List ℤ) → HoldsOn (suc (numbers_of c k.vars)) rows row → Holds row 1 here
   at_point row h = h 1 here (omega arith) (point_length o c are k.vars s) (to_all (λ (r : List ℤ). Holds r 1 here) rows all)
 
+  not_empty : AreEmpty (suc (numbers_of c k.vars)) rows → ⊥
+  not_empty h = h 1 here (omega arith) (point_length o c are k.vars s) (to_all (λ (r : List ℤ). Holds r 1 here) rows all)
+
   head_positive : (l : Mapping) → RowHoldsOn (suc (numbers_of c k.vars)) rows (level_row c k.vars l k.head) → pos 0 ≤ℤ at_head l
   head_positive l h = go (level_row c k.vars l k.head) refl h
     where
       go : (r : Option (List ℤ)) → level_row c k.vars l k.head ≡ r → RowHoldsOn (suc (numbers_of c k.vars)) rows r → pos 0 ≤ℤ at_head l
-      go None e n = absurd n
+      go None e n = absurd (not_empty n)
       go (Some r) e n = subst (λ (z : ℤ). pos 0 ≤ℤ z) (level_value o c are k.vars s k.head hk l r e) (at_point r n)
 
   fall_value : (d : ℕ) (l : Mapping) → RowHoldsOn (suc (numbers_of c k.vars)) rows (fall_row c k b d l) → (at_call l +ℤ pos d) ≤ℤ at_head l
   fall_value d l h = go (level_row c k.vars l k.head) (level_row c k.vars l b) refl refl h
     where
       go : (x y : Option (List ℤ)) → level_row c k.vars l k.head ≡ x → level_row c k.vars l b ≡ y → RowHoldsOn (suc (numbers_of c k.vars)) rows (difference d x y) → (at_call l +ℤ pos d) ≤ℤ at_head l
-      go None y ex ey n = absurd n
-      go (Some x) None ex ey n = absurd n
+      go None y ex ey n = absurd (not_empty n)
+      go (Some x) None ex ey n = absurd (not_empty n)
       go (Some x) (Some y) ex ey n =
           let ps = pos 1 ∷ map pos here in
           let f = plain_fall _ _ _ _ _ _ d (at_point (added x (scaled (negsuc 0) (added y (pos d ∷ [])))) n)

@@ -41,7 +41,8 @@ module _ (p : Listing) (c : Claims) (rows : ℕ → List (List ℤ)) (grounds : 
       (to_all (λ (r : List ℤ). Holds r t w) (system c vars bs) (system_rows vars (λ (r : List ℤ). Holds r t w) bs (from_all (λ (r : List ℤ). Holds r t w) (system e vars bs) all)))
 
   row_holds : (n vars : ℕ) (bs : List Atom) (row : Option (List ℤ)) → RowHoldsOn n (system c vars bs) row → RowHoldsOn n (system e vars bs) row
-  row_holds n vars bs None h = h
+  row_holds n vars bs None h = λ t w some long all. h t w some long
+      (to_all (λ (r : List ℤ). Holds r t w) (system c vars bs) (system_rows vars (λ (r : List ℤ). Holds r t w) bs (from_all (λ (r : List ℤ). Holds r t w) (system e vars bs) all)))
   row_holds n vars bs (Some row) h = holds n vars bs row h
 
   falls : (k : Clause) (bs : List Atom) (b : Atom) (i : ℕ) (ls : List Mapping) → FallsOn c k (system c k.vars bs) b i ls → FallsOn e k (system e k.vars bs) b i ls

@@ -7,7 +7,7 @@ use Rattle.exact128.proofs.Rings.{rings, mul_nonneg}
 use Rattle.exact128.specs.Sums.{dot, entry}
 use Rattle.linear_rows.specs.Replacing.{substituted}
 use Rattle.linear_rows.specs.RowSums.{scaled, added}
-use Rattle.linear_rows.specs.Rows.{HoldsOn}
+use Rattle.linear_rows.specs.Rows.{HoldsOn, AreEmpty}
 use Rattle.cti_terms.specs.Tree.{Tree}
 use Rattle.termination_model.specs.claims.Claims.{SomeOf}
 use Rattle.termination_model.specs.mappings.Refutation.{Load, gather}
@@ -160,6 +160,9 @@ module _ (width : ℕ) (expression : ℕ → Tree → ℕ → Option (List ℤ))
   at_any o (s, u, some, (lu, hu)) row on (suc t) w (lw, hw) = on (suc t) w (omega arith) (omega (arith, lw)) hw
   at_any o (s, u, some, (lu, hu)) row on zero w (lw, hw) = at_infinity (numbers o) (rows_before width expression o) row on s u w some (omega (arith, lu)) (lw ∙ sym lu) hu hw
 
+  not_empty : (o : Own) → HasPoint o → AreEmpty (numbers o) (rows_before width expression o) → ⊥
+  not_empty o (s, u, some, (lu, hu)) empty = empty s u some (omega (arith, lu)) hu
+
   level_value : (n q : ℕ) (ks : List ℕ) (ts : List Tree) (l : Mapping) (r : List ℤ) (t : ℕ) (w : List ℕ) → level_over width expression n q ks ts l ≡ Some r
       → dot r (pos t ∷ map pos w) ≡ dot (weights l q) (values_at width expression n ks ts t w)
   level_value n q ks ts l r t w e =
@@ -171,17 +174,17 @@ module _ (width : ℕ) (expression : ℕ → Tree → ℕ → Option (List ℤ))
   BothThere o d l = (x : List ℤ) × (y : List ℤ) × (head_over width expression o.rule l ≡ Some x) × (level_over width expression o.rule.vars o.member o.call.kinds o.call.args l ≡ Some y)
       × HoldsOn (numbers o) (rows_before width expression o) (added x (scaled (negsuc 0) (added y (pos d ∷ []))))
 
-  both_there : (o : Own) (d : ℕ) (l : Mapping) → Holding o (fall_of o d l) → BothThere o d l
-  both_there o d l h = go (head_over width expression o.rule l) (level_over width expression o.rule.vars o.member o.call.kinds o.call.args l) refl refl h
+  both_there : (o : Own) → HasPoint o → (d : ℕ) (l : Mapping) → Holding o (fall_of o d l) → BothThere o d l
+  both_there o point d l h = go (head_over width expression o.rule l) (level_over width expression o.rule.vars o.member o.call.kinds o.call.args l) refl refl h
     where
       go : (x y : Option (List ℤ)) → head_over width expression o.rule l ≡ x → level_over width expression o.rule.vars o.member o.call.kinds o.call.args l ≡ y → Holding o (difference d x y) → BothThere o d l
-      go None y ex ey n = absurd n
-      go (Some x) None ex ey n = absurd n
+      go None y ex ey n = absurd (not_empty o point n)
+      go (Some x) None ex ey n = absurd (not_empty o point n)
       go (Some x) (Some y) ex ey n = (x, y, ex, ey, n)
 
   fall_value : (o : Own) → HasPoint o → (d : ℕ) (l : Mapping) → Holding o (fall_of o d l) → (t : ℕ) (w : List ℕ) → IsAt width expression o t w → (call_level l o t w +ℤ pos d *ℤ pos t) ≤ℤ head_level l o t w
   fall_value o point d l h t w at =
-      let b = both_there o d l h in
+      let b = both_there o point d l h in
       let x = b.0 in
       let y = b.1 in
       let ps = pos t ∷ map pos w in
@@ -194,7 +197,7 @@ module _ (width : ℕ) (expression : ℕ → Tree → ℕ → Option (List ℤ))
   head_value o point l h t w at = go (head_over width expression o.rule l) refl h
     where
       go : (x : Option (List ℤ)) → head_over width expression o.rule l ≡ x → Holding o x → pos 0 ≤ℤ head_level l o t w
-      go None e n = absurd n
+      go None e n = absurd (not_empty o point n)
       go (Some x) e n = subst (λ (z : ℤ). pos 0 ≤ℤ z) (level_value o.rule.vars o.rule.member o.rule.kinds o.rule.args l x t w e) (at_any o point x n t w at)
 
   -- the mapping does not rise at the call; it falls there and is at least 0 on the head
@@ -208,13 +211,13 @@ module _ (width : ℕ) (expression : ℕ → Tree → ℕ → Option (List ℤ))
   HasPlace ls o = (i : ℕ) × FallsOver width expression o.rule (rows_before width expression o) o.member o.call i ls
 
   -- a column that the call lacks has the number 0
-  lacking : (l : Mapping) (o : Own) (q i : ℕ) → Stays l o → Lacks width expression o q i → entry (l.coefficients q) i ≡ pos 0
-  lacking l o q i (d, h) (inl (e, none)) =
-      let b = both_there o d l h in
+  lacking : (l : Mapping) (o : Own) (q i : ℕ) → HasPoint o → Stays l o → Lacks width expression o q i → entry (l.coefficients q) i ≡ pos 0
+  lacking l o q i point (d, h) (inl (e, none)) =
+      let b = both_there o point d l h in
       let is = row_there (o.rule.vars * width) (columns_in width expression o.rule.vars o.rule.kinds o.rule.args) (l.offset o.rule.member) (l.coefficients o.rule.member) b.0 b.2 in
       subst (λ (m : ℕ). entry (l.coefficients m) i ≡ pos 0) e (none_lacking (l.coefficients o.rule.member) (columns_in width expression o.rule.vars o.rule.kinds o.rule.args) i is.0 none)
-  lacking l o q i (d, h) (inr (e, none)) =
-      let b = both_there o d l h in
+  lacking l o q i point (d, h) (inr (e, none)) =
+      let b = both_there o point d l h in
       let is = row_there (o.rule.vars * width) (columns_in width expression o.rule.vars o.call.kinds o.call.args) (l.offset o.member) (l.coefficients o.member) b.1 b.3 in
       subst (λ (m : ℕ). entry (l.coefficients m) i ≡ pos 0) e (none_lacking (l.coefficients o.member) (columns_in width expression o.rule.vars o.call.kinds o.call.args) i is.0 none)
 
@@ -264,17 +267,17 @@ module _ (width : ℕ) (expression : ℕ → Tree → ℕ → Option (List ℤ))
     others_stand l stay [] h = tt
     others_stand l stay (p ∷ ps) h = ((h.0.0, standing l gs groups stay p.own h.0.1), others_stand l stay ps h.1)
 
-    lacked : (l : Mapping) (hs : List Group) → AllByRecursion (StaysAt l) hs → (q i : ℕ) → SomeOf (λ (h : Group). Lacks width expression h.first.own q i) hs → entry (l.coefficients q) i ≡ pos 0
-    lacked l [] stay q i s = absurd s
-    lacked l (h ∷ hs) stay q i (inl s) = lacking l h.first.own q i stay.0 s
-    lacked l (h ∷ hs) stay q i (inr s) = lacked l hs stay.1 q i s
+    lacked : (l : Mapping) (hs : List Group) → AllByRecursion (IsGroup width expression view sizes gs) hs → AllByRecursion (StaysAt l) hs → (q i : ℕ) → SomeOf (λ (h : Group). Lacks width expression h.first.own q i) hs → entry (l.coefficients q) i ≡ pos 0
+    lacked l [] are stay q i s = absurd s
+    lacked l (h ∷ hs) are stay q i (inl s) = lacking l h.first.own q i (point_of h are.0) stay.0 s
+    lacked l (h ∷ hs) are stay q i (inr s) = lacked l hs are.1 stay.1 q i s
 
     opposed : (l : Mapping) → IsNatural sizes l → AllByRecursion (StaysAt l) gs → (g : Group) → IsGroup width expression view sizes gs g → (q i : ℕ) → Opposed (entry (weights l q) i) (entry (gather q (loads width expression g)) i)
     opposed l natural stay g is q zero = inr (inl (is.offsets q))
     opposed l natural stay g is q (suc i) = go (is.columns q i)
       where
         go : IsBalancedAt width expression sizes gs g q i → Opposed (entry (l.coefficients q) i) (entry (gather q (loads width expression g)) (suc i))
-        go (inl s) = inl (lacked l gs stay q i s)
+        go (inl s) = inl (lacked l gs groups stay q i s)
         go (inr (inl e)) = inr (inl e)
         go (inr (inr (size, le))) = inr (inr (natural q i size, le))
 

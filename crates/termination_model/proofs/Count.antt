@@ -89,7 +89,7 @@ abbrev value_mapping : Mapping
 value_mapping = record { coefficients = λ _. pos 0 ∷ (pos 1 ∷ (negsuc 0 ∷ [])); offset = λ _. pos 0 }
 
 -- the second row of `is` says that the call's value is one less
-falls : TargetProvable rows (fall_row count_claims count_down (count_of (Variable 1)) 1 value_mapping)
+falls : TargetProvable 6 rows (fall_row count_claims count_down (count_of (Variable 1)) 1 value_mapping)
 unfolding dot
 falls = (by_row 1, 1, natural 1, proves)
   where
@@ -104,7 +104,7 @@ falls = (by_row 1, 1, natural 1, proves)
     proves (suc (suc (suc (suc (suc (suc (suc k))))))) l = absurd (omega arith)
 
 -- the row of `>` says that the head's value is at least 1
-floor : TargetProvable rows (level_row count_claims 2 value_mapping count_down.head)
+floor : TargetProvable 6 rows (level_row count_claims 2 value_mapping count_down.head)
 unfolding dot
 floor = (by_row 0, 1, natural 0, proves)
   where

@@ -15,7 +15,7 @@ use Rattle.cti_terms.specs.declared.builtins.Builtin.{Builtin}
 use Rattle.cti_terms.specs.declared.clauses.Clause.{Clause}
 use Rattle.cti_terms.specs.Listing.{Listing}
 use Rattle.linear_rows.specs.Members.{In}
-use Rattle.linear_rows.specs.Rows.{Holds, HoldsOn}
+use Rattle.linear_rows.specs.Rows.{Holds, HoldsOn, AreEmpty}
 use Rattle.linear_rows.specs.RowSums.{scaled, added}
 use Rattle.termination_model.specs.grounds.Grounds.{Family, truth_row, IsGround, IsClosed}
 use Rattle.termination_model.specs.sizes.Rows.{IsUpper}
@@ -85,9 +85,9 @@ difference d (Some head) (Some call) = Some (added head (scaled (negsuc 0) (adde
 abbrev pub fall_row : Claims → Clause → Atom → ℕ → Mapping → Option (List ℤ)
 fall_row c k b d l = difference d (level_row c k.vars l k.head) (level_row c k.vars l b)
 
--- there is a row, and it holds where the rows do
+-- a row holds wherever the rows do; one that needs an expression which is not there does so where these hold nowhere
 abbrev pub RowHoldsOn : ℕ → List (List ℤ) → Option (List ℤ) → Type 0
-RowHoldsOn n rows None = ⊥
+RowHoldsOn n rows None = AreEmpty n rows
 RowHoldsOn n rows (Some row) = HoldsOn n rows row
 
 -- where the rows hold, the mapping at place i falls and is at least 0 on the head, and none before it rises

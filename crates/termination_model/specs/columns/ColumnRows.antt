@@ -33,6 +33,22 @@ abbrev pub row_over : ℕ → List (Option (List ℤ)) → List ℤ → Option (
 row_over n es [] = Some (replicate (suc n) (pos 0))
 row_over n es (b ∷ row) = if lacks row es then None else Some (substituted n (map or_empty es) (b ∷ row))
 
+-- a row over the columns of a clause's head: a positive number at an expression that is not there counts as 0, since no
+-- column is negative
+abbrev pub negative : ℤ → ℤ
+negative (pos n) = pos 0
+negative (negsuc n) = negsuc n
+
+abbrev pub least : List ℤ → List (Option (List ℤ)) → List ℤ
+least [] es = []
+least (z ∷ zs) [] = z ∷ zs
+least (z ∷ zs) (None ∷ es) = negative z ∷ least zs es
+least (z ∷ zs) (Some e ∷ es) = z ∷ least zs es
+
+abbrev pub least_over : ℕ → List (Option (List ℤ)) → List ℤ → Option (List ℤ)
+least_over n es [] = row_over n es []
+least_over n es (b ∷ row) = row_over n es (b ∷ least row es)
+
 -- zeros where there is no row
 abbrev pub or_zeros : ℕ → Option (List ℤ) → List ℤ
 or_zeros n None = replicate (suc n) (pos 0)

@@ -2,7 +2,7 @@
 -- What is shown by multipliers, over short systems of columns.
 --
 -- To believe: nothing.
-use Rattle.std.specs.Prelude.{◌≡◌, ℕ, zero, suc, ℤ, List, [], ◌∷◌, map, take, slice_get, Option, None, Some}
+use Rattle.std.specs.Prelude.{◌≡◌, ℕ, zero, suc, ℤ, pos, negsuc, List, [], ◌∷◌, map, take, replicate, slice_get, Option, None, Some}
 use Rattle.std.specs.List.{AllByRecursion}
 use Rattle.cti_terms.specs.Arithmetic.{kind_of}
 use Rattle.cti_terms.specs.declared.atom_list.Atom.{Atom}
@@ -12,24 +12,35 @@ use Rattle.cti_terms.specs.Listing.{Listing, IsProgram}
 use Rattle.termination_model.specs.grounds.Grounds.{IsClosed}
 use Rattle.termination_model.specs.sizes.Short.{Provable}
 use Rattle.termination_model.specs.sizes.ShortSystems.{short_row}
-use Rattle.termination_model.specs.columns.Columns.{AreColumns}
-use Rattle.termination_model.specs.columns.ColumnClaims.{Mapping, Measure, Claims, IsRanked, IsCovered, KeepsRule, AreStated, atom_row, system, level_row, fall_row, Shows}
+use Rattle.termination_model.specs.columns.Columns.{AreColumns, columns_of}
+use Rattle.termination_model.specs.columns.ColumnClaims.{Mapping, Measure, Claims, IsRanked, IsCovered, KeepsRule, AreStated, numbers_of, system, level_row, fall_row, Shows}
+use Rattle.termination_model.specs.columns.ColumnRows.{least_over}
 
 abbrev pub short_system : Claims → ℕ → List Atom → List (List ℤ)
 short_system c vars bs = map short_row (system c vars bs)
 
--- a target that needs an expression which is not there is not proved
-abbrev pub TargetProvable : List (List ℤ) → Option (List ℤ) → Type 0
-TargetProvable rows None = ⊥
-TargetProvable rows (Some target) = Provable rows target
+-- the row of n coefficients that holds nowhere
+abbrev pub never : ℕ → List ℤ
+never n = negsuc 0 ∷ replicate n (pos 0)
+
+-- multipliers show that a target over n naturals holds where the rows do; one that needs an expression which is not there
+-- is shown only where these hold nowhere
+abbrev pub TargetProvable : ℕ → List (List ℤ) → Option (List ℤ) → Type 0
+TargetProvable n rows None = Provable rows (never n)
+TargetProvable n rows (Some target) = Provable rows target
+
+-- a size row, over the head of a clause
+abbrev pub head_row : Claims → Clause → List ℤ → Option (List ℤ)
+head_row c k r = least_over (numbers_of c k.vars) (columns_of (c.kinds k.head.pred.0) (map (c.columns.expression k.vars) k.head.args)) r
 
 abbrev pub SizesProved : Claims → Clause → Type 0
-SizesProved c k = AllByRecursion (λ (r : List ℤ). TargetProvable (short_system c k.vars k.body) (atom_row c k.vars k.head r)) (c.rows k.head.pred.0)
+SizesProved c k = AllByRecursion (λ (r : List ℤ). TargetProvable (numbers_of c k.vars) (short_system c k.vars k.body) (head_row c k r)) (c.rows k.head.pred.0)
 
 abbrev pub FallsProved : Claims → Clause → List (List ℤ) → Atom → ℕ → List Mapping → Type 0
 FallsProved c k rows b i [] = ⊥
-FallsProved c k rows b zero (l ∷ ls) = TargetProvable rows (fall_row c k b 1 l) × TargetProvable rows (level_row c k.vars l k.head)
-FallsProved c k rows b (suc i) (l ∷ ls) = TargetProvable rows (fall_row c k b 0 l) × FallsProved c k rows b i ls
+FallsProved c k rows b zero (l ∷ ls) =
+    TargetProvable (numbers_of c k.vars) rows (fall_row c k b 1 l) × TargetProvable (numbers_of c k.vars) rows (level_row c k.vars l k.head)
+FallsProved c k rows b (suc i) (l ∷ ls) = TargetProvable (numbers_of c k.vars) rows (fall_row c k b 0 l) × FallsProved c k rows b i ls
 
 abbrev pub DescendsProved : Claims → Measure → Clause → Type 0
 DescendsProved c m k =
