@@ -1,0 +1,11 @@
+pub mod TemplateValues
+pub mod TemplatePoints
+pub mod Spikes
+pub mod TemplateRefuted
+pub mod StuckLaws
+pub mod TurnLaws
+pub mod Levels
+pub mod TurnPoints
+pub mod TurnRefuted
+pub mod Examples
+pub mod TurnExcluded

@@ -1,0 +1,6 @@
+pub mod Templates
+pub mod TemplateLaws
+pub mod Transitions
+pub mod StuckSets
+pub mod Turns
+pub mod Examples
