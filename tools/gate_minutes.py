@@ -4,9 +4,9 @@
 Usage: tools/gate_minutes.py COMMAND..            (as tools/gate_minutes.py .ci/run)
        tools/gate_minutes.py --write COMMAND..    writes the minutes of the proofs into tools/crate_minutes.txt, too
 
-Each process of the prover on this machine is looked at twice a second, whoever started it, and what it takes after the last look is not
-counted. So let nothing else be proved meanwhile. An edit that has to be refused is known by the folder in which it is tried. Minutes are
-those of this machine, with as many checks side by side as the command makes; what was kept from earlier runs takes none.
+Each process of the prover that the command started is looked at twice a second, and what it takes after the last look is not counted. An
+edit that has to be refused is known by the folder in which it is tried. Minutes are those of this machine, with as many checks side by
+side as there were; what was kept from earlier runs takes none.
 """
 import collections
 import os
@@ -19,15 +19,18 @@ from pathlib import Path
 top = Path(__file__).resolve().parent.parent
 TABLE = top / "tools" / "crate_minutes.txt"
 TICKS = os.sysconf("SC_CLK_TCK")
+# What the command and all that it starts have in their environments.
+MARK = f"GATE_MINUTES={os.getpid()}"
 CRATE = re.compile(rb"--crate-name\0([^\0]+)")
 EDIT = re.compile(r"/rt-edit-[0-9]+-")
 
 
 def process(folder):
-    """What a process is known by, its crate, whether it tries an edit, and the seconds that it has taken; none for another program's."""
+    """What a process is known by, its crate, whether it tries an edit, and the seconds that it has taken; none for another program's, or
+    another command's."""
     stat = (folder / "stat").read_text()
     name, fields = stat[stat.index("(") + 1:stat.rindex(")")], stat[stat.rindex(")") + 2:].split()
-    if name != "rattle":
+    if name != "rattle" or MARK.encode() not in (folder / "environ").read_bytes().split(b"\0"):
         return None
     crate = CRATE.search((folder / "cmdline").read_bytes())
     if not crate:
@@ -70,7 +73,7 @@ def main():
     if not words:
         sys.exit(__doc__.split("\n\n")[1])
     seen = {}
-    run = subprocess.Popen(words)
+    run = subprocess.Popen(words, env={**os.environ, **dict([MARK.split("=")])})
     while run.poll() is None:
         look(seen)
         time.sleep(0.5)
