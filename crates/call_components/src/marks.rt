@@ -11,11 +11,11 @@ use std::marker::Model;
 /// How far the search has come with a predicate.
 #[derive(Clone, Copy)]
 pub(crate) enum Mark {
-    /// It was not met yet.
+    /// Not met yet.
     Unseen,
-    /// It stands at this place of the row of open predicates.
+    /// Open: at this place of the row of open predicates.
     Open(usize),
-    /// It is in the component of this number.
+    /// In the component of this number.
     Closed(u32),
 }
 

@@ -99,7 +99,7 @@ impl Standing<'_> {
         Ok(Mapping { measures, falls })
     }
 
-    /// The same of each mapping.
+    /// Mappings under the new numbers of clauses.
     fn moved_mappings(
         &self,
         alloc: Global,
@@ -162,7 +162,7 @@ impl Standing<'_> {
         }
     }
 
-    /// The same under the new numbers of clauses, and of members, which are these.
+    /// What was found of a component, under the new numbers of clauses and of members.
     pub(crate) fn moved_found(
         &self,
         alloc: Global,

@@ -30,7 +30,7 @@ fn place_before(edit: &Edit<'_>, before: &[PredId], member: PredId) -> usize
     0
 }
 
-/// The same for each of these.
+/// The places that the namesakes of members had among members of the old program.
 pub(crate) fn places_before(
     alloc: Global,
     edit: &Edit<'_>,
@@ -81,7 +81,8 @@ fn number_before(edit: &Edit<'_>, before: &[Position], position: Position) -> u3
     0
 }
 
-/// The same for each of these. With 2^32 - 1 positions or more, before or after, it is out of memory.
+/// The number that each position had before the edit. Fails where there are 2^32 - 1 positions or more, before or
+/// after.
 pub(crate) fn numbers_before(
     alloc: Global,
     edit: &Edit<'_>,

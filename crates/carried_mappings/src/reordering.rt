@@ -60,7 +60,7 @@ impl Reordered<'_> {
         Ok(Mapping { measures, falls })
     }
 
-    /// The same of each mapping.
+    /// Mappings, with the members as they stand now.
     fn all(&self, alloc: Global, mappings: &[Mapping]) -> Result<Sequence<Mapping>, AllocError>
         requires reordered { IsReordered self.now }
         requires places { AllByRecursion (λ m. HasPlaces self.now m.measures) mappings.now }
@@ -83,7 +83,7 @@ impl Reordered<'_> {
         renumbered(alloc, self.numbers, support.as_slice())
     }
 
-    /// The same of each mapping.
+    /// The supports of mappings, by the numbers that positions have now.
     fn supports(
         &self,
         alloc: Global,

@@ -121,7 +121,7 @@ impl MappingSources<'_> {
         }
     }
 
-    /// The same for each component.
+    /// What is found of each component, kept or searched for.
     fn resolve_all<N: Norm>(&self, alloc: Global, norm: &N) -> Result<Sequence<Found>, AllocError>
         requires sources { AreMappingSources self.now }
         requires found { FoundBefore (N.expression norm.now) self.now }

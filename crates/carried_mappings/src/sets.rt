@@ -38,7 +38,7 @@ pub(crate) fn renumbered(
     Ok(Sequence::from_vec(now))
 }
 
-/// The same of each set.
+/// Sets by the numbers that positions have now.
 pub(crate) fn all_renumbered(
     alloc: Global,
     numbers: &[u32],

@@ -28,7 +28,7 @@ fn carried_own(
     }
 }
 
-/// The same for each predicate.
+/// The sets that predicates had, by name and arity.
 pub(crate) fn carried_lists(
     alloc: Global,
     edit: &Edit<'_>,

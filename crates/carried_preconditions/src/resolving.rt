@@ -83,7 +83,7 @@ fn renew<N: Norm>(
     solve_anew(alloc, sources, c, table, progress)
 }
 
-/// The same, and marks the members whose values stayed.
+/// Solves a component, or keeps its sets, and marks the members whose values stayed.
 fn resolve<N: Norm>(
     alloc: Global,
     sources: &PreconditionSources<N>,
@@ -103,7 +103,7 @@ fn resolve<N: Norm>(
     Ok(())
 }
 
-/// The same for each component, callees first.
+/// Solves or keeps each component, callees first.
 fn resolve_each<N: Norm>(
     alloc: Global,
     sources: &PreconditionSources<N>,
@@ -150,7 +150,7 @@ fn begin<N: Norm>(
     })
 }
 
-/// The same from the sets that were there before.
+/// The preconditions after an edit, from the sets that were there before.
 fn resolve_all<N: Norm>(
     alloc: Global,
     sources: &PreconditionSources<N>,
@@ -167,7 +167,7 @@ fn resolve_all<N: Norm>(
     Ok(progress.into_solved())
 }
 
-/// The same by an edit with the clauses of all components.
+/// The preconditions after an edit, by the clauses of all components.
 fn resolve_edit<N: Norm>(
     alloc: Global,
     norm: &N,

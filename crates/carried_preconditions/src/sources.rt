@@ -16,7 +16,7 @@ pub(crate) struct PreconditionSources<'a, N> {
     pub(crate) users: &'a ClauseLists,
     /// Ground rows and mappings of the new program.
     pub(crate) inputs: &'a Inputs<'a>,
-    /// Those of the old program, with its preconditions.
+    /// Ground rows and mappings of the old program, with its preconditions.
     pub(crate) before: &'a PreconditionsBefore<'a>,
 }
 

@@ -5,7 +5,7 @@
 pub enum ModeReason {
     /// A clause of the predicate gives a row that its ground rows lack: reason 7 of a certificate's faults.
     Ground,
-    /// Its preconditions break their rule: reason 8.
+    /// A precondition of the predicate breaks its rule: reason 8.
     Precondition,
     /// A mode is in no precondition with all upper rows: reason 9.
     Mode,

@@ -60,7 +60,7 @@ impl<N: Norm> PreconditionRule<'_, N> {
         self.mark_each(table, &mut chosen, marks)
     }
 
-    /// The same, with room for a set of each predicate.
+    /// Marks each predicate with a clause that breaks it in some mapping, with room for a set of each predicate.
     fn mark_each(
         &self,
         table: &mut Table,

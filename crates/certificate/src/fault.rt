@@ -9,7 +9,7 @@ pub enum CertFault {
     /// The text has more than 16,777,216 bytes.
     #[error("the certificate is too long")]
     Long,
-    /// This line, counted from 1, is the first that is not a fact's text.
+    /// The line of this number, counted from 1, is the first that is not a fact's text.
     #[error("line {line} of the certificate is not a fact")]
     NotAFact { line: u32 },
     /// Memory ran out.

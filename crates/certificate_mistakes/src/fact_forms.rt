@@ -10,7 +10,7 @@ pub(crate) struct FactForm {
     /// The parts from the first on that are counted from 1, and the one after them.
     pub(crate) first: u32,
     pub(crate) end: u32,
-    /// Its place in the order of the facts.
+    /// The form's place in the order of the facts.
     pub(crate) rank: u32,
 }
 

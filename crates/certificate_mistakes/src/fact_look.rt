@@ -33,7 +33,7 @@ fn unquoted(text: &[u8]) -> &[u8] {
     text.get(1..end).unwrap_or(&[])
 }
 
-/// That a name stands in quotes that needs none.
+/// A mistake where a name stands in quotes that needs none.
 fn quoted_mistake<'a>(name: &'a [u8]) -> Option<FactMistake<'a>> {
     if is_plain(name) {
         shown_name(name).map(FactMistake::Quotes)

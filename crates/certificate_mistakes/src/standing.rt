@@ -26,7 +26,7 @@ fn version_mistake<'a>(
     }
 }
 
-/// That a fact of this form may not stand after the line before.
+/// A mistake where a fact of this form may not stand after the line before.
 fn order_mistake<'a>(before: &[u8], form: &'static FactForm) -> Option<FactMistake<'a>> {
     match form_of_line(before) {
         Some(earlier) if form.rank < earlier.rank => {

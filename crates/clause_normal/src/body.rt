@@ -27,8 +27,8 @@ fn is_new(places: &Occurrences, start: usize, end: usize, order: &[u32], x: u32)
     places.is_outside(x, start, end) && !is_among(order, x)
 }
 
-/// Those of these variables that occur before a place, or from another on, each once in order of first occurrence, where these are no
-/// more than a predicate has arguments.
+/// The variables among these that occur before a place, or from another one on, each once in order of first occurrence;
+/// none where they are more than a predicate has arguments.
 fn shared(
     alloc: Global,
     places: &Occurrences,
@@ -139,7 +139,7 @@ fn goals<'a, 'v, 'o>(
     Ok(goals)
 }
 
-/// These variables, and after them those of a body.
+/// Variables, and after them those of a body.
 fn with_own(alloc: Global, args: &[u32], pieces: &[Piece]) -> Result<Vec<u32>, AllocError>
     ensures { IfOk result (λ v. v.items ≡ args.now ++ own_in pieces.now) }
 {

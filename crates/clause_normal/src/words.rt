@@ -180,13 +180,13 @@ pub(crate) fn is_reserved(text: &[u8], arity: usize) -> bool
 /// What a name does to the bodies that are its arguments.
 #[derive(Clone, Copy)]
 pub(crate) enum Connective {
-    /// It joins two bodies.
+    /// Joins two bodies.
     And,
-    /// It is a disjunction of two bodies.
+    /// A disjunction of two bodies.
     Or,
-    /// It is not a goal.
+    /// No goal: it is left out.
     Truth,
-    /// It is a goal.
+    /// A goal.
     Other,
 }
 

@@ -16,7 +16,7 @@ use term_size::NormName;
 /// Why the words are not a command.
 #[derive(Clone, Copy, PartialEq, Eq)]
 pub enum RequestFault {
-    /// They do not fit the usage.
+    /// The words do not fit the usage.
     Usage,
     /// Memory ran out.
     Memory,
@@ -44,9 +44,9 @@ pub enum Request<'a> {
 /// Where a text comes from.
 #[derive(Clone, Copy)]
 pub enum Origin<'a> {
-    /// It is that of a file of this name.
+    /// The text of a file of this name.
     File(&'a str),
-    /// It is generated, with this many predicates.
+    /// A generated text, with this many predicates.
     Generated(u32),
 }
 

@@ -48,7 +48,7 @@ impl Atoms {
         }
     }
 
-    /// These atoms, in their order. It takes no memory.
+    /// The atoms of a vector, in its order. Takes no memory.
     pub fn from_vec(items: Vec<Atom>) -> Atoms
         ensures { result ≡ items.items }
     {

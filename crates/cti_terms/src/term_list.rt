@@ -38,7 +38,7 @@ impl Terms {
         }
     }
 
-    /// These terms, in their order. It takes no memory.
+    /// The terms of a vector, in its order. Takes no memory.
     pub fn from_vec(items: Vec<Term>) -> Terms
         ensures { result ≡ map tree_of items.items }
     {

@@ -1,4 +1,4 @@
-//! That a generated text is a program. It is a function that does nothing, and whose clause is proved.
+//! Generated texts are programs: a law, as a function that does nothing and whose clause is proved.
 
 ghost use Rattle.std.specs.Prelude.{◌≤◌, ℕ};
 ghost use Rattle.report.specs.Generated.{generated};

@@ -20,7 +20,7 @@ use prolog_terms::{ReadClause, ReadShape, ReadTerm};
 pub(crate) enum Edit {
     /// A directive that says nothing here.
     Nothing,
-    /// This clause is added.
+    /// A clause is added.
     Add(ReadClause),
     /// The clause of this number is removed.
     Remove(i128),

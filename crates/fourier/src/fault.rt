@@ -20,7 +20,7 @@ pub enum ElimFault {
 pub enum StepFault {
     /// A number that it forms does not fit.
     Wide,
-    /// It leaves more than 4,096 rows, and its numbers fit, but for a brief step, which does not look at all of them.
+    /// More than 4,096 rows are left, and the numbers fit. A brief step does not look at all of them.
     Many,
     /// Memory was refused.
     Memory,

@@ -144,7 +144,8 @@ fn rigid_pair(table: &mut Table) -> Result<Diagram, AllocError>
     table.and(first, second)
 }
 
-/// The same for these two sets: `both` has the row of two rigid arguments, and `none` has none.
+/// Puts in the sets that a component's members begin with: `both` has the row of two rigid arguments, and `none` has
+/// none.
 fn begin_members(
     p: &Program,
     comps: &Components,

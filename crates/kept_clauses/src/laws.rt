@@ -24,7 +24,7 @@ pub fn untouched_have_stayed<X>()
     ensures { UntouchedHaveStayed X }
 {}
 
-/// It is enough that components of untouched predicates do, so that more may be known of their members.
+/// The components of untouched predicates may be any that have stayed, so that more may be known of their members.
 pub fn untouched_of_set_have_stayed<X>()
     ensures { UntouchedOfSetHaveStayed X }
 {}

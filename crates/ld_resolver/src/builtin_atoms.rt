@@ -20,16 +20,16 @@ use unifier::raised_term::RaisedTerm;
 /// What the first atom of a goal does by itself.
 #[derive(Clone, Copy, Drop)]
 pub enum FirstAtom<'p> {
-    /// It is not built in.
+    /// Not built in.
     Ordinary,
 
-    /// It is built in, and fails.
+    /// Built in, and fails.
     Fails,
 
-    /// It is built in, and a value does not fit.
+    /// Built in, and a value does not fit.
     Wide,
 
-    /// It is built in, and succeeds if its first argument unifies with the value, where there is one.
+    /// Built in, and succeeds if its first argument unifies with the value, where there is one.
     Succeeds(Option<&'p Term>),
 }
 

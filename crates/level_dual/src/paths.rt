@@ -34,7 +34,7 @@ impl Drop for Paths {
 }
 
 impl Paths {
-    /// Those of a component.
+    /// The paths of a component.
     pub(crate) fn of(
         alloc: Global,
         p: &Program,

@@ -7,7 +7,7 @@ use crate::mapping::Mapping;
 pub enum Answer {
     /// A decreasing mapping whose support is part of the set.
     Mapping(Mapping),
-    /// That there is none.
+    /// There is no such mapping.
     Refuted,
     /// Nothing: the set's system is blown.
     Blown,

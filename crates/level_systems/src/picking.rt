@@ -51,7 +51,7 @@ fn is_picked(picked: &[Position], position: Position) -> bool
     false
 }
 
-/// Those of some positions that are picked, in their order.
+/// The picked ones among positions, in their order.
 pub fn in_order(
     alloc: Global,
     order: &[Position],

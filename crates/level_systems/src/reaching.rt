@@ -16,9 +16,9 @@ use std::alloc::{AllocError, Global};
 /// What the test whether rows are empty says.
 #[derive(Drop)]
 pub enum Reach {
-    /// They hold at some point.
+    /// The rows hold at some point.
     Live,
-    /// They hold nowhere, as these multipliers with scale 0 show.
+    /// The rows hold nowhere, as multipliers with scale 0 show.
     Empty(Multipliers),
     /// The test is blown.
     Blown,

@@ -121,7 +121,7 @@ fn add_ones(row: &mut Vec<i128>, count: usize) -> Result<(), AllocError>
     Ok(())
 }
 
-/// That the drops are together at least 1.
+/// The row that says that the drops are together at least 1.
 fn sum_row(
     alloc: Global,
     positions: usize,

@@ -31,7 +31,7 @@ pub(crate) enum Next {
 pub(crate) enum Ended {
     /// A list that descends.
     List(MeasureList),
-    /// That there is none, since no turn can be made for the calls that are not gone.
+    /// There is no list, since no turn can be made for the calls that are not gone.
     Refuted(Vec<bool>),
     /// Nothing: the search is given up.
     GivenUp,

@@ -26,7 +26,7 @@ pub(crate) struct Made {
 pub(crate) enum Step {
     /// A mapping.
     Made(Made),
-    /// That no mapping at these positions falls at one of the calls that remain and rises at none.
+    /// No mapping at these positions falls at one of the calls that remain and rises at none.
     Refuted,
     /// Nothing: the turn's system is blown.
     Blown,

@@ -7,7 +7,7 @@ use crate::measure_list::MeasureList;
 pub(crate) enum Within {
     /// A list that descends, whose mappings are positive at these positions alone.
     List(MeasureList),
-    /// That there is none.
+    /// There is no such list.
     Nothing,
     /// Neither: the search is given up.
     GivenUp,

@@ -14,7 +14,7 @@ pub struct Multipliers {
 }
 
 impl Multipliers {
-    /// The same multipliers once more.
+    /// A copy of the multipliers.
     pub fn copy(&self, alloc: Global) -> Result<Multipliers, AllocError>
         ensures { IfOk result (λ copy. copy ≡ self.now) }
     {
@@ -25,7 +25,7 @@ impl Multipliers {
     }
 }
 
-/// The same list of multipliers once more.
+/// A copy of a list of multipliers.
 pub fn copied_multipliers(
     alloc: Global,
     list: &[Multipliers],
@@ -42,7 +42,7 @@ pub fn copied_multipliers(
 /// Whether multiplied rows prove a target.
 #[derive(Clone, Copy, PartialEq, Eq, Debug)]
 pub enum Proof {
-    /// They do, and each number that the test forms fits.
+    /// The multiplied rows prove the target, and each number that the test forms fits.
     Holds,
     /// In the first column that decides, a difference is below 0.
     Fails,

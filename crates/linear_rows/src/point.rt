@@ -13,7 +13,7 @@ pub struct Point {
 }
 
 impl Point {
-    /// The same point once more.
+    /// A copy of the point.
     pub fn copy(&self, alloc: Global) -> Result<Point, AllocError>
         ensures { IfOk result (λ copy. copy ≡ self.now) }
     {

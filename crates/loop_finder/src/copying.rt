@@ -50,7 +50,7 @@ fn copied_term<'p>(
     }
 }
 
-/// The same of arguments.
+/// Copies of terms under bindings.
 #[cycle(copied)]
 fn copied_terms<'p>(
     alloc: Global,

@@ -40,7 +40,7 @@ fn is_same_term(left: &Term, right: &Term, room: &mut Room) -> Result<bool, Allo
     }
 }
 
-/// The same of arguments.
+/// Whether lists of terms are the same, one by one.
 #[cycle(same)]
 fn are_same_terms(left: &[Term], right: &[Term], room: &mut Room) -> Result<bool, AllocError>
     ensures { IfOk result (λ b. b ≡ are_same (trees_of left.now) (trees_of right.now)) }
@@ -153,7 +153,7 @@ fn match_term<'g>(
     }
 }
 
-/// The same of arguments.
+/// Matches the terms of two lists one by one.
 #[cycle(matching)]
 fn match_terms<'g>(
     general: &'g [Term],

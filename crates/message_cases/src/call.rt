@@ -78,7 +78,7 @@ impl Call {
         std::str::from_utf8(&self.output).unwrap_or("")
     }
 
-    /// Its words, lent.
+    /// The words of the call, lent.
     pub(crate) fn words(&self, alloc: Global) -> Result<Vec<&str>, AllocError> {
         let mut words = Vec::new(alloc);
         for word in &self.words {

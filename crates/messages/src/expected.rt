@@ -194,7 +194,7 @@ fn second_neck<'a>(scan: &Scan, gap: Gap<'a>) -> Option<Mistake<'a>> {
     Some(Mistake::Clause(mistake))
 }
 
-/// That `%` was meant for the remainder of a division in the line before a place at which a line begins.
+/// A mistake where `%` was meant for the remainder of a division in the line before a place at which a line begins.
 fn percent_before<'a>(before: &[u8]) -> Option<OperatorMistake<'a>> {
     if begins_line(before) {
         percent_mistake(before)

@@ -6,7 +6,7 @@ use std::io::ErrorKind;
 #[derive(Clone, Copy)]
 pub enum FileCause {
     Missing,
-    /// It is missing, and the word for a query is a file's name.
+    /// The file is missing, and the word for a query is a file's name.
     Exchanged,
     Denied,
     Directory,

@@ -19,7 +19,7 @@ enum Mode {
     Escape,
     /// The digits of an escape there, up to its second backslash.
     CharacterDigits,
-    /// The same in an item in quotes of this kind.
+    /// The digits of an escape in an item in quotes of this kind.
     Digits(u8),
 }
 

@@ -18,7 +18,7 @@ pub enum ByteMistake {
 }
 
 impl ByteMistake {
-    /// Its sentence, with a `{}` for each thing that `shown` gives.
+    /// The sentence of the mistake, with a `{}` for each thing that `shown` gives.
     pub fn sentence(self) -> &'static str {
         match self {
             Self::ByteOrderMark => "leave out this byte order mark: save the file without it",

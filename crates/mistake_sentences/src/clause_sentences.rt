@@ -28,7 +28,7 @@ pub enum ClauseMistake<'a> {
 }
 
 impl<'a> ClauseMistake<'a> {
-    /// Its sentence, with a `{}` for each thing that `shown` gives.
+    /// The sentence of the mistake, with a `{}` for each thing that `shown` gives.
     pub fn sentence(self) -> &'static str {
         match self {
             Self::CommaForDot => "does the clause before end with a comma in place of its dot?",

@@ -11,7 +11,7 @@ pub enum EditMistake {
 }
 
 impl EditMistake {
-    /// Its sentence.
+    /// The sentence of the mistake.
     pub fn sentence(self) -> &'static str {
         match self {
             Self::Add =>

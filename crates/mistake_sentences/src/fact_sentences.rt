@@ -37,7 +37,7 @@ pub enum FactMistake<'a> {
 }
 
 impl<'a> FactMistake<'a> {
-    /// Its sentence, with a `{}` for each thing that `shown` gives.
+    /// The sentence of the mistake, with a `{}` for each thing that `shown` gives.
     pub fn sentence(self) -> &'static str {
         match self {
             Self::OfLists =>

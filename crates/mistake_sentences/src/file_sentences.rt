@@ -20,7 +20,7 @@ pub enum FileMistake<'a> {
 }
 
 impl<'a> FileMistake<'a> {
-    /// Its sentence, with a `{}` for each thing that `shown` gives.
+    /// The sentence of the mistake, with a `{}` for each thing that `shown` gives.
     pub fn sentence(self) -> &'static str {
         match self {
             Self::Query { .. } => "run it with `cti run {} {}`",

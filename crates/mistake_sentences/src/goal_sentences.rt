@@ -25,7 +25,7 @@ pub enum GoalMistake {
 }
 
 impl GoalMistake {
-    /// Its sentence.
+    /// The sentence of the mistake.
     pub fn sentence(self) -> &'static str {
         match self {
             Self::Variable => "a variable as a goal is not read: name the predicate",

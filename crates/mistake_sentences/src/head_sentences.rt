@@ -11,7 +11,7 @@ pub enum HeadMistake {
 }
 
 impl HeadMistake {
-    /// Its sentence.
+    /// The sentence of the mistake.
     pub fn sentence(self) -> &'static str {
         match self {
             Self::Comma =>

@@ -23,7 +23,7 @@ pub enum OperatorMistake<'a> {
 }
 
 impl<'a> OperatorMistake<'a> {
-    /// Its sentence, with a `{}` for each thing that `shown` gives.
+    /// The sentence of the mistake, with a `{}` for each thing that `shown` gives.
     pub fn sentence(self) -> &'static str {
         match self {
             Self::Module(_) => "`:` is not an operator here: modules are not read; leave out `{}:`",

@@ -14,7 +14,7 @@ pub enum QueryMistake {
 }
 
 impl QueryMistake {
-    /// Its sentence.
+    /// The sentence of the mistake.
     pub fn sentence(self) -> &'static str {
         match self {
             Self::Empty => "the query is empty",

@@ -4,7 +4,7 @@ use mistake_sentences::{ClauseMistake, HeadMistake, Mistake, OperatorMistake};
 use prolog_tokens::TokenKind;
 use token_search::{TextToken, TokenReader, shown_name, value_of};
 
-/// That a variable has the place of a head.
+/// A mistake where a variable has the place of a head.
 fn variable_mistake<'a>(first: TextToken<'a>, second: TextToken<'_>) -> Option<Mistake<'a>> {
     if matches!(first.kind, TokenKind::Var)
         && second.follows_head()

@@ -28,7 +28,7 @@ fn is_rest(text: &[u8]) -> bool {
     }
 }
 
-/// That `%` was meant for the remainder of a division at the end of a text, as in `Y is X % 2`.
+/// A mistake where `%` was meant for the remainder of a division at the end of a text, as in `Y is X % 2`.
 pub fn percent_mistake<'a>(text: &[u8]) -> Option<OperatorMistake<'a>> {
     let line = last_line(text);
     if let Some(before) = before_byte(line, b'%')

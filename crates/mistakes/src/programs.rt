@@ -111,7 +111,7 @@ fn is_pred(text: &str, name: &str, arity: u64) -> bool {
     }
 }
 
-/// That a certificate is of another program, where their first predicates are plain to see and differ.
+/// A mistake where a certificate is of another program: the first predicates of both are plain to see, and differ.
 pub fn program_mistake<'a>(program: &'a [u8], certificate: &'a [u8]) -> Option<FileMistake<'a>> {
     if let Some((name, arity)) = first_pred(program)
         && let Some(other) = certified_pred(certificate)

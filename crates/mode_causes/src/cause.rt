@@ -18,9 +18,9 @@ pub enum Cause {
 /// Why not all measures of a component were looked for.
 #[derive(Clone, Copy, PartialEq, Eq)]
 pub enum Limit {
-    /// They were, as far as the facts say.
+    /// All supports were looked at, as far as the facts say.
     None,
-    /// It has this many argument positions, more than 12.
+    /// The group has this many argument positions, more than 12.
     Large(u64),
     /// A search was given up.
     Blown,

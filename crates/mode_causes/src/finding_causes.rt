@@ -24,17 +24,17 @@ pub enum Why {
     OneCall(Culprit),
     /// Nothing falls at all of these calls, the first of which is this fact.
     Calls { start: usize, points: u64 },
-    /// The same, and no order of measures does.
+    /// Nothing falls at all of these calls, the first of which is this fact, and no order of measures does.
     Stuck { start: usize, points: u64 },
     /// No list of mappings descends at all of these calls.
     NoList { start: usize, points: u64 },
     Large(u64),
     Blown,
-    /// It calls this predicate, which has no mode.
+    /// A call is to this predicate, which has no mode.
     Callee(u32),
-    /// This call lacks variables, even if all arguments of the query are known.
+    /// A call lacks variables, even if all arguments of the query are known.
     Lacks(CallAt),
-    /// The same, where nothing is known of the variables.
+    /// A call lacks variables of which nothing is known.
     Needs(u32),
     /// No arguments are enough.
     Unmet,

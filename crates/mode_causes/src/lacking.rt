@@ -35,7 +35,7 @@ struct Weaker {
 pub struct Found {
     /// The calls that surely lack something.
     pub lacking: Vec<CallAt>,
-    /// Those that may lack something.
+    /// The calls that may lack something.
     pub unsure: Vec<CallAt>,
     /// By predicate, the own call of it at which the fewest arguments are known.
     weaker: Vec<Option<Weaker>>,

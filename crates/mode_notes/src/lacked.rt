@@ -12,12 +12,12 @@ const MOST_NAMES: u32 = 4;
 
 /// The variables that a call lacks.
 pub(crate) struct Lacked {
-    /// Their names in back quotes, with commas between.
+    /// The names of the variables in back quotes, with commas between.
     pub(crate) names: String,
     pub(crate) count: u32,
     /// Whether one of them is an `_`.
     has_blank: bool,
-    /// Those that have not been named, as a set.
+    /// The variables that have not been named, as a set.
     left: u64,
 }
 

@@ -41,7 +41,7 @@ pub(crate) fn unsure_shown(
     format!(in alloc; ": {places}")
 }
 
-/// That more calls lack something than the first of these, or nothing.
+/// A sentence that more calls lack something than the first of these, or nothing.
 fn others_shown(
     alloc: Global,
     source: Source<'_, '_, '_>,

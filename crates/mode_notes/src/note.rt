@@ -8,7 +8,7 @@ pub enum Note<'a> {
     #[error("{pred} has no mode: no known size of {arguments} gets smaller from the head of this clause to this call")]
     OneCall {
         pred: &'a str,
-        /// Its own ones, or those of another predicate of its group.
+        /// Argument positions of the predicate, or of another one of its group.
         arguments: &'a str,
     },
     #[error("{pred} has no mode: no single weighted sum of sizes falls at all of these calls: {places}")]

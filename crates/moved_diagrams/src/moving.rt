@@ -13,7 +13,7 @@ use sequences::Sequence;
 use std::alloc::{AllocError, Global};
 use truth_rows::cube_rows;
 
-/// The same set of rows of this length, in another table.
+/// A set of rows of this length, in another table.
 pub fn moved(
     table: &Table,
     set: Diagram,
@@ -51,7 +51,7 @@ pub fn moved_sets(
     Ok(all)
 }
 
-/// The same of the sets of one predicate.
+/// The sets of one predicate, in another table.
 fn moved_own(
     alloc: Global,
     table: &Table,

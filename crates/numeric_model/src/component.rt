@@ -72,7 +72,7 @@ fn put_below(
     Ok(())
 }
 
-/// The same for one predicate.
+/// Puts in the rows of a predicate, if it is below the component.
 fn put_if_below(
     alloc: Global,
     comps: &Components,

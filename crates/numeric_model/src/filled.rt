@@ -3,10 +3,10 @@
 /// What is known of a predicate's rows.
 #[derive(Clone, Copy, PartialEq, Eq)]
 pub(crate) enum Filled {
-    /// They are the one row of constant -1.
+    /// The rows are the one row of constant -1.
     Bottom,
-    /// They do not contain that row.
+    /// The rows do not contain that row.
     Unknown,
-    /// They have a point.
+    /// The rows have a point.
     Inhabited,
 }

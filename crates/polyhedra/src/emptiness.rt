@@ -13,9 +13,9 @@ use std::alloc::{AllocError, Global};
 /// Whether rows hold at some point.
 #[derive(Clone, Copy, PartialEq, Eq, Debug)]
 pub(crate) enum Emptiness {
-    /// They hold nowhere.
+    /// The rows hold nowhere.
     Empty,
-    /// They hold at some point.
+    /// The rows hold at some point.
     Inhabited,
     /// The test is blown.
     Unknown,

@@ -60,7 +60,7 @@ pub(crate) fn put_members(
     Ok(())
 }
 
-/// The same for one member.
+/// Puts the sets of one member into their place, and joins them to what is allowed.
 fn put_member(
     p: &Program,
     table: &mut Table,

@@ -45,7 +45,7 @@ pub(crate) fn put_covering(
     Ok(())
 }
 
-/// The same for one predicate.
+/// Puts in the rows that a predicate's coefficients cover.
 fn cover_member(
     p: &Program,
     table: &mut Table,

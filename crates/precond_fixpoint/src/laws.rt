@@ -19,7 +19,7 @@ pub fn greatest_depends_below()
     ensures { GreatestDependsBelow }
 {}
 
-/// That rows are the greatest of a component says nothing of other predicates' rows.
+/// Whether rows are the greatest of a component does not depend on other predicates' rows.
 pub fn greatest_depends_on_members()
     ensures { GreatestDependsOnMembers }
 {}

@@ -107,7 +107,7 @@ fn modes_among(
     minimal_lists(alloc, admitted.as_slice())
 }
 
-/// Those of the lists whose rows a set has.
+/// The lists whose rows a set has.
 fn admitted_lists(
     alloc: Global,
     table: &Table,
@@ -130,7 +130,7 @@ fn admitted_lists(
     Ok(admitted)
 }
 
-/// Those of the lists of which no shorter one is part.
+/// The lists of which no shorter one is part.
 fn minimal_lists(alloc: Global, lists: &[Sequence<u32>]) -> Result<Sequence<Mode>, AllocError>
     ensures { IfOk result (λ list. map arguments_of list
         ≡ filter (λ args. not (list_any (λ less. nat_lt (length less) (length args)

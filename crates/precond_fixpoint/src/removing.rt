@@ -79,7 +79,7 @@ fn remove_rows<N: Norm>(
     Ok(true)
 }
 
-/// The same for a clause of the component. It does nothing for any other clause.
+/// Removes the broken rows of a clause of the component. Does nothing for any other clause.
 fn remove_member<N: Norm>(
     setting: &Setting<N>,
     component: &Component,

@@ -68,7 +68,7 @@ pub fn solve_levels<N: Norm>(
     solve_components(alloc, &setting, table)
 }
 
-/// The same in a setting.
+/// The preconditions of all components, in a setting.
 fn solve_components<N: Norm>(
     alloc: Global,
     setting: &Setting<N>,
@@ -157,7 +157,7 @@ impl Drop for SearchState {
     }
 }
 
-/// The same with marks and sets for the search.
+/// The preconditions of each component, with marks and sets for the search.
 fn solve_each<N: Norm>(
     alloc: Global,
     setting: &Setting<N>,

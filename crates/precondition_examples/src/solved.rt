@@ -50,7 +50,7 @@ fn parts(
     Ok(list)
 }
 
-/// These mappings for a predicate of a recursive component, and the one of zeros for another.
+/// Mappings for a predicate of a recursive component, and the one of zeros for another.
 fn own_parts(
     alloc: Global,
     recursive: bool,

@@ -24,7 +24,7 @@ pub fn readings_within_depth()
         × (first_deep limit (clause_loads t) ≡ None) }
 {}
 
-/// It stops as too deep at the first token that is, where no token up to it is unexpected.
+/// The machine stops as too deep at the first token that is, where no token up to it is unexpected.
 pub fn first_too_deep()
     ensures found { (infixes : ℕ → Option Infix) (prefixes : ℕ → Option Prefix) (comma limit : ℕ) (us rest : List Token)
         → run limit (syntax_rules infixes prefixes comma) start us ≡ Err (deep rest)
@@ -34,7 +34,7 @@ pub fn first_too_deep()
         → run limit (syntax_rules infixes prefixes comma) start us ≡ Err (deep rest) }
 {}
 
-/// It stops as unexpected at the first token that is, where no token before it is too deep.
+/// The machine stops as unexpected at the first token that is, where no token before it is too deep.
 pub fn unexpected_within_depth()
     ensures found { (infixes : ℕ → Option Infix) (prefixes : ℕ → Option Prefix) (comma limit : ℕ) (us rest : List Token)
         → run limit (syntax_rules infixes prefixes comma) start us ≡ Err (unexpected rest)

@@ -37,7 +37,7 @@ impl ReadClauses {
         }
     }
 
-    /// These clauses. It takes no memory.
+    /// The clauses of a vector, in its order. Takes no memory.
     pub fn from_vec(clauses: Vec<ReadClause>) -> ReadClauses
         ensures { result ≡ map clause_of clauses.items }
     {

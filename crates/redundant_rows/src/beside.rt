@@ -32,7 +32,7 @@ pub(crate) fn failing_beside(
     }
 }
 
-/// The same along the first column where it is found.
+/// A point one step beside the one inside, along the first column where there is one.
 fn along_columns(
     alloc: Global,
     rows: &Rows,

@@ -5,7 +5,7 @@
 pub(crate) enum Mark {
     /// Nothing.
     Waiting,
-    /// It was inserted.
+    /// Inserted.
     Kept,
     /// Rows that were inserted imply it.
     Implied,

@@ -110,7 +110,7 @@ struct Way {
 }
 
 impl Way {
-    /// These, and one more row that is met.
+    /// The way, with one more row that is met.
     fn with(self, met: Met) -> Way {
         let Some(first) = self.first else {
             return Way {
@@ -127,7 +127,7 @@ impl Way {
         self.with_second(met)
     }
 
-    /// These, and one more row that is not met before the first.
+    /// The way, with one more row that is not met before the first.
     fn with_second(self, met: Met) -> Way {
         if let Some(second) = self.second {
             if !met.is_before(second) {
@@ -140,8 +140,8 @@ impl Way {
         }
     }
 
-    /// These, and a row, if it is met. None where it is met at the point inside. A row is passed over where a number does not
-    /// fit: one that is needed most often has small numbers.
+    /// The way, with a row if it is met. None where the row is met at the point inside. A row is passed over where a
+    /// number does not fit: one that is needed most often has small numbers.
     fn past(self, place: usize, row: &Row, inside: &Point, outside: &Point) -> Option<Way> {
         let Some(value) = row.value_at(outside.t, outside.w.as_slice()) else {
             return Some(self);

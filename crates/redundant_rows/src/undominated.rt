@@ -101,7 +101,7 @@ struct Signs {
 }
 
 impl Signs {
-    /// These signs, and that of a number in a column.
+    /// The signs, with that of a number in a column.
     fn with(self, column: usize, number: i128) -> Signs {
         let bit = 1 << (column % 64);
         if number < 0 {

@@ -32,7 +32,7 @@ impl<T> Sequence<T> {
         }
     }
 
-    /// These items, in their order. It takes no memory.
+    /// The items of a vector, in its order. Takes no memory.
     pub fn from_vec(items: Vec<T>) -> Sequence<T>
         ensures { result ≡ items.items }
     {

@@ -15,10 +15,10 @@ use term_size::NormName;
 const LIBRARY: &str =
     "app([],L,L). app([H|T],L,[H|R]) :- app(T,L,R). rev([H|T],R) :- rev(T,S), app(S,[H],R). ";
 
-/// Its modes.
+/// The modes of the library.
 const MODES: &str = "terminates(app/3,[[1],[3]]).\nterminates(rev/2,[[1]]).\n";
 
-/// Its first clause, its second one, and what is left without that.
+/// The first clause of the library, the second one, and what is left without that.
 const FIRST: &str = "app([],L,L). ";
 
 const SECOND: &str = "app([H|T],L,[H|R]) :- app(T,L,R). ";
@@ -103,7 +103,7 @@ fn grow(alloc: Global, desk: &mut Desk) -> Result<(), Fail> {
     play(alloc, desk, growth.as_slice(), (3, 33))
 }
 
-/// Its second clause goes, and comes back in its place.
+/// The library's second clause goes, and comes back in its place.
 fn go_and_come(alloc: Global, desk: &mut Desk) -> Result<(), Fail> {
     let less = "terminates(app/3,[[]]).\nterminates(rev/2,[[1]]).\n";
     let round = [

@@ -105,7 +105,7 @@ impl Drop for Desk {
     }
 }
 
-/// The same for the numbers of a row.
+/// Makes pivots for the numbers of a row, so many at most.
 fn pivots(
     rows: &Rows,
     basis: &mut Basis,
@@ -262,7 +262,7 @@ fn least(
     })
 }
 
-/// The same among the units. Where there is none, the product is 0.
+/// The entering unit. Where there is none, the product is 0.
 fn entering_unit(y: &[Integer], is_late: bool) -> Candidate {
     let mut best = Candidate {
         member: Member::Unit(0),

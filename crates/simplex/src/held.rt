@@ -5,9 +5,9 @@ use linear_rows::{Multipliers, Point};
 /// Whether a row holds on rows.
 #[derive(Drop)]
 pub enum Held {
-    /// It does, as these multipliers show.
+    /// The row holds, as these multipliers show.
     Yes(Multipliers),
-    /// It fails at this point of the rows.
+    /// The row fails at this point of the rows.
     No(Point),
     /// The test is blown: a number of it does not fit, or more than 4,096 rows are left in it.
     Blown,

@@ -90,7 +90,7 @@ struct Best {
 }
 
 impl Best {
-    /// This row, or another one that is cheaper.
+    /// The cheaper of the row and another one.
     fn or(self, place: usize, price: i128) -> Best {
         if price < self.price {
             Best {

@@ -32,7 +32,7 @@ fn carried_row(
     }
 }
 
-/// The same for each predicate.
+/// The carried rows of each predicate.
 fn carried_rows(alloc: Global, edit: &Edit<'_>, rows: &SizeRows) -> Result<SizeRows, AllocError>
     requires { AreSizes edit.now.before.now.preds rows.now }
     ensures each { IfOk result (λ carried. length carried ≡ length edit.now.after.now.preds) }
@@ -62,7 +62,7 @@ fn carried_by(
     }
 }
 
-/// The same for each clause.
+/// The carried proofs of each clause.
 fn carried_proofs(
     alloc: Global,
     edit: &Edit<'_>,

@@ -7,7 +7,7 @@ ghost use Rattle.component_laws.specs.Runs.{with_number};
 use numeric_model::Step;
 use std::alloc::{AllocError, Global};
 
-/// The same step once more, on the clause of another number.
+/// A copy of a step, on the clause of another number.
 pub(crate) fn copied_step(alloc: Global, step: &Step, clause: u32) -> Result<Step, AllocError>
     ensures { IfOk result (λ copy. plain_step copy ≡ with_number clause (plain_step step.now)) }
 {

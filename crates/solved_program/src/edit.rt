@@ -8,11 +8,11 @@ use cti_terms::Program;
 pub struct Edit<'a> {
     /// The program before the edit.
     pub before: &'a Program,
-    /// Its components.
+    /// The components of the program before the edit.
     pub components_before: &'a Components,
     /// The program after the edit.
     pub after: &'a Program,
-    /// Its components.
+    /// The components of the program after the edit.
     pub components: &'a Components,
     /// For each clause after the edit the number of the same clause before it, if it was kept. Clauses count from 1.
     pub kept: &'a [Option<u32>],

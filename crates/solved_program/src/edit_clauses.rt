@@ -16,7 +16,7 @@ pub struct EditClauses<'a> {
     pub edit: &'a Edit<'a>,
     /// For each component before the edit the numbers of its clauses.
     pub own_before: &'a [Sequence<u32>],
-    /// The same after the edit.
+    /// For each component after the edit the numbers of its clauses.
     pub own: &'a [Sequence<u32>],
 }
 

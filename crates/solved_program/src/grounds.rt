@@ -51,7 +51,7 @@ pub fn carried_sets(
     Ok(sets)
 }
 
-/// The same of sets of a table, where a predicate that was not there has no rows.
+/// The carried sets of each predicate, in a table. A predicate that was not there has no rows.
 fn carried_grounds(
     alloc: Global,
     edit: &Edit<'_>,
@@ -76,7 +76,7 @@ pub(crate) struct GroundSources<'a, N> {
     pub(crate) users: &'a ClauseLists,
     /// The diagrams from before the edit.
     pub(crate) old: &'a [Diagram],
-    /// The same under the new numbers of predicates.
+    /// The diagrams from before the edit under the new numbers of predicates.
     pub(crate) carried: &'a [Diagram],
 }
 
@@ -139,7 +139,7 @@ fn resolve<N: Norm>(
     }
 }
 
-/// The same for each component, callees first.
+/// Solves or keeps each component, callees first.
 fn resolve_each<N: Norm>(
     sources: &GroundSources<N>,
     marks: &mut Marks,
@@ -163,7 +163,7 @@ fn resolve_each<N: Norm>(
     Ok(())
 }
 
-/// The same from the diagrams that were there before.
+/// The ground rows after an edit, from the diagrams that were there before.
 fn resolve_all<N: Norm>(
     alloc: Global,
     sources: &GroundSources<N>,

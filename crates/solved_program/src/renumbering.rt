@@ -18,7 +18,7 @@ fn next_place(count: usize, place: usize) -> usize
     if place + 1 == count { 0 } else { place + 1 }
 }
 
-/// The same steps, where passes go over clauses that have these numbers now, one step for each.
+/// Steps on clauses that have these numbers now, one step for each in a pass.
 pub(crate) fn renumbered(
     alloc: Global,
     steps: &[Step],

@@ -35,7 +35,7 @@ pub struct Sources<'a> {
     pub old: &'a SolvedSizes,
     /// For each component before the edit the numbers of its clauses.
     pub own_before: &'a [Sequence<u32>],
-    /// The same after the edit.
+    /// For each component after the edit the numbers of its clauses.
     pub own: &'a [Sequence<u32>],
 }
 
@@ -188,7 +188,7 @@ impl Sources<'_> {
         }
     }
 
-    /// The same for each component, callees first.
+    /// Solves or keeps each component, callees first.
     fn resolve_each<D: Domain, N: Norm>(
         &self,
         alloc: Global,
@@ -210,7 +210,7 @@ impl Sources<'_> {
         Ok(())
     }
 
-    /// The same from what was there before.
+    /// The rows after an edit, from what was there before.
     fn resolve_all<D: Domain, N: Norm>(
         &self,
         alloc: Global,

@@ -47,7 +47,7 @@ impl Compared<'_> {
         self.stayed[after.0 as usize]
     }
 
-    /// The same for the atoms of two bodies, in order.
+    /// Whether the atoms of two bodies are the same calls, one by one.
     fn are_same_calls(&self, before: &[Atom], after: &[Atom]) -> bool
         requires compared { IsCompared self.now }
         requires before { AllByRecursion

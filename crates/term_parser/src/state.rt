@@ -49,11 +49,11 @@ pub enum State {
 /// Why a token is refused.
 #[derive(Clone, Copy, PartialEq, Eq)]
 pub enum Refusal {
-    /// It is not expected.
+    /// A token is not expected.
     Unexpected,
-    /// It is expected, and no token after it is.
+    /// A token is expected, and no token after it is.
     NextUnexpected,
-    /// It stands too deep.
+    /// A token stands too deep.
     Deep,
 }
 

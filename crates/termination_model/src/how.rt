@@ -9,7 +9,7 @@ pub enum How {
     First,
     /// The rows become a join of themselves and the image's.
     Join,
-    /// Those rows stay that hold on the clause.
+    /// The rows that hold on the clause stay.
     Keep,
     /// The rows hold on the clause, and stay.
     Same,

@@ -54,7 +54,7 @@ pub fn generated_queries_are_bounded()
     ensures no_number { GenHasNoNumber }
 {}
 
-/// The same over columns.
+/// Why queries over columns end in each world that agrees with stated facts.
 pub fn a_query_over_columns_is_bounded_in_worlds()
     ensures rows { ColumnStated.RowsEndIn }
     ensures modes { ColumnStated.ModesEndIn }

@@ -118,7 +118,8 @@ fn bound_or_clash<'p>(
     }
 }
 
-/// The same of a term all of whose variables are below a limit: one from the limit on does not occur in it.
+/// What a free variable asks for, and a compound term whose variables are all below a limit: a variable from the limit
+/// on does not occur in it.
 #[inline(always)]
 fn apart_or_bound<'p>(
     bindings: &Bindings<'p>,

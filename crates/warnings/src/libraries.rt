@@ -12,25 +12,25 @@ pub enum Library {
     Clauses,
     /// None do, or none for every use.
     NoClauses,
-    /// It ends, and only fails or not.
+    /// Ends, and only fails or not.
     Test,
-    /// It ends, and what it binds is not known here.
+    /// Ends, and what it binds is not known here.
     Unknown,
-    /// It ends, and writes.
+    /// Ends, and writes.
     Output,
-    /// It changes clauses or values that last.
+    /// Changes clauses or values that last.
     State,
-    /// It loads files.
+    /// Loads files.
     Loading,
-    /// It delays goals.
+    /// Delays goals.
     Delayed,
-    /// It calls grammar rules.
+    /// Calls grammar rules.
     Grammar,
-    /// It is a list.
+    /// A list.
     List,
-    /// It is a name with a number of arguments, and no call.
+    /// A name with a number of arguments, and no call.
     Indicator,
-    /// It is not known as one of a library.
+    /// Not known as a predicate of a library.
     Other,
 }
 

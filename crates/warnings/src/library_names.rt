@@ -4,7 +4,7 @@
 /// A name and an arity.
 type NameArity = (&'static str, u32);
 
-/// Those for which there are clauses of pure programs.
+/// Predicates for which there are clauses of pure programs.
 pub(crate) const WITH_CLAUSES: [NameArity; 36] = [
     ("append", 2),
     ("append", 3),
@@ -44,7 +44,7 @@ pub(crate) const WITH_CLAUSES: [NameArity; 36] = [
     ("transpose", 2),
 ];
 
-/// Those that take goals from terms, and others for which no clauses of pure programs do.
+/// Predicates that take goals from terms, and others for which no clauses of pure programs do.
 pub(crate) const OF_GOALS: [NameArity; 71] = [
     ("aggregate_all", 3),
     ("aggregate_all", 4),
@@ -119,7 +119,7 @@ pub(crate) const OF_GOALS: [NameArity; 71] = [
     ("{}", 1),
 ];
 
-/// Those that end, bind nothing and only fail or not.
+/// Predicates that end, bind nothing and only fail or not.
 pub(crate) const TESTS: [NameArity; 18] = [
     ("acyclic_term", 1),
     ("at_end_of_stream", 0),
@@ -141,7 +141,7 @@ pub(crate) const TESTS: [NameArity; 18] = [
     ("subsumes_term", 2),
 ];
 
-/// Those that end, and bind what is not known here.
+/// Predicates that end, and bind what is not known here.
 pub(crate) const UNKNOWN: [NameArity; 62] = [
     ("absolute_file_name", 2),
     ("atom_number", 2),
@@ -207,7 +207,7 @@ pub(crate) const UNKNOWN: [NameArity; 62] = [
     ("upcase_atom", 2),
 ];
 
-/// Those that write, and end.
+/// Predicates that write, and end.
 pub(crate) const OUTPUT: [NameArity; 36] = [
     ("append", 1),
     ("debug", 0),
@@ -247,7 +247,7 @@ pub(crate) const OUTPUT: [NameArity; 36] = [
     ("writeln", 2),
 ];
 
-/// Those that change clauses or values that last.
+/// Predicates that change clauses or values that last.
 pub(crate) const OF_STATE: [NameArity; 22] = [
     ("assert", 1),
     ("assert", 2),
@@ -273,7 +273,7 @@ pub(crate) const OF_STATE: [NameArity; 22] = [
     ("table", 1),
 ];
 
-/// Those that load files.
+/// Predicates that load files.
 pub(crate) const LOADING: [NameArity; 12] = [
     ("consult", 1),
     ("ensure_loaded", 1),
@@ -289,8 +289,8 @@ pub(crate) const LOADING: [NameArity; 12] = [
     ("use_module", 2),
 ];
 
-/// Those that delay goals.
+/// Predicates that delay goals.
 pub(crate) const DELAYED: [NameArity; 3] = [("freeze", 2), ("frozen", 2), ("when", 2)];
 
-/// Those that call grammar rules.
+/// Predicates that call grammar rules.
 pub(crate) const OF_GRAMMARS: [NameArity; 2] = [("phrase", 2), ("phrase", 3)];

@@ -11,7 +11,7 @@ pub(crate) enum Warning {
         pred: Pred,
         caller: Option<Pred>,
     },
-    /// The same, of a predicate whose name another one with clauses has.
+    /// A predicate that has no clause is called, and another one of its name has clauses.
     OtherArity {
         at: u32,
         pred: Pred,

@@ -27,7 +27,7 @@ impl Command {
         }
     }
 
-    /// Its name.
+    /// The name of the command.
     pub(crate) fn name(self) -> &'static str {
         match self {
             Command::Infer => "infer",

@@ -24,7 +24,7 @@ impl CommandOption {
         }
     }
 
-    /// Its name.
+    /// The name of the option.
     pub(crate) fn name(self) -> &'static str {
         match self {
             CommandOption::Steps => "--steps",
