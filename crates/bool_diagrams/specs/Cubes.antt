@@ -22,9 +22,10 @@ unfoldable pub same_rows : (n : ℕ) → (List Bool → Bool) → (List Bool →
 same_rows zero s t = iff (s []) (t [])
 same_rows (suc n) s t = same_rows n (rests false s) (rests false t) && same_rows n (rests true s) (rests true t)
 
--- The cubes of a set of rows of length n. Of no length: the empty cube, if the set has the empty row. Else, where the rests after false
--- and after true are the same: any before each of their cubes. Where they differ: false before each cube of the rests after false, then
--- true before each cube of those after true. The set of 000, 010, 100 and 111 has the cubes 0x0, 100 and 111
+-- The cubes of a set of rows of length n. Of no length: the empty cube, if the set has the empty row. Else, where the
+-- rests after false and after true are the same: any before each of their cubes. Where they differ: false before each
+-- cube of the rests after false, then true before each cube of those after true. The set of 000, 010, 100 and 111 has
+-- the cubes 0x0, 100 and 111
 unfoldable pub cubes : (n : ℕ) → (List Bool → Bool) → List (List Cell)
 cubes zero set = if set [] then [] ∷ [] else []
 cubes (suc n) set =

@@ -1,5 +1,6 @@
 -- Private.
--- How the logic stores a list of trees: each tree as its leaves and variables, branches before their variable. Nothing here has to be believed.
+-- How the logic stores a list of trees: each tree as its leaves and variables, branches before their variable. Nothing
+-- here has to be believed.
 use Rattle.std.specs.Prelude.{◌≡◌, ℕ, Bool, false, List, [], ◌∷◌, ◌++◌, ◌⊎◌}
 use Rattle.std.specs.Coded.{Coded, code_by, coded_ℕ, coded_bool, coded_list, coded⊎}
 use Rattle.std.proofs.Common.{inl, inr, refl, ◌∙◌, append_assoc, append-nil, ap}

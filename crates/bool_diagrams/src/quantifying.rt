@@ -55,7 +55,8 @@ impl Table {
         Ok(Diagram(self.quantify(connective, a.0, variable)?))
     }
 
-    /// Joins what the diagram is where the variable is false and where it is true. It goes one variable deeper at each call.
+    /// Joins what the diagram is where the variable is false and where it is true. It goes one variable deeper at each
+    /// call.
     fn quantify(&mut self, connective: Connective, a: u64, variable: u32) -> Result<u64, AllocError>
         requires known { IsOf self.old a }
         requires in_range { variable < VARIABLES }

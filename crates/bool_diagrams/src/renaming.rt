@@ -31,8 +31,8 @@ impl Table {
         Ok(Diagram(self.rename_in(&mut made, a.0, from, to)?))
     }
 
-    /// Renames each node once: what was made of a node speaks of these names, and so is kept for this renaming alone. It
-    /// goes one variable deeper at each call.
+    /// Renames each node once: what was made of a node speaks of these names, and so is kept for this renaming alone.
+    /// It goes one variable deeper at each call.
     fn rename_in(
         &mut self,
         made: &mut HashMap<u64, u64>,

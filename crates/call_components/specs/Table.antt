@@ -1,5 +1,6 @@
 -- Private.
--- The calls of a program as a table: for each predicate those that its clauses call, in order. Nothing here has to be believed.
+-- The calls of a program as a table: for each predicate those that its clauses call, in order. Nothing here has to be
+-- believed.
 use Rattle.std.specs.Prelude.{◌≡◌, ℕ, ◌<◌, ◌↔◌, ◌==◌, if◌then◌else◌, List, [], ◌∷◌, ◌++◌, map, length, slice_get, slice_index_or, Some}
 use Rattle.std.specs.List.{AllByRecursion}
 use Rattle.cti_terms.specs.declared.clauses.Clause.{Clause}

@@ -1,4 +1,5 @@
--- A component that stands for an old one: its members, positions, view and pairs are those of the old one, under other numbers.
+-- A component that stands for an old one: its members, positions, view and pairs are those of the old one, under other
+-- numbers.
 use Rattle.std.proofs.Common.{◌≡◌, ℕ, suc, ◌+◌, ◌-◌, ◌<◌, ◌==◌, ℤ, Bool, true, false, if◌then◌else◌, inl, inr, List, [], ◌∷◌, ◌++◌, map, length, slice_get, Option, Some, refl, ap, sym, subst, ◌∙◌, arith}
 use Rattle.std.specs.Prelude.{cond, filter}
 use Rattle.std.specs.List.{AllByRecursion, flat_map}

@@ -42,7 +42,8 @@ new_number s = moved s.own_before.now s.own.now
 abbrev pub HasParts : Standing → Mapping → Type 0
 HasParts s mapping = map (λ (m : Measure). m.pred.0) mapping.measures ≡ members_in s.edit.now.components_before.now s.before
 
--- so both components have members of the same names and arities, and each mapping that is found has a part for each of them
+-- so both components have members of the same names and arities, and each mapping that is found has a part for each of
+-- them
 pub record CanBeCarried (s : Standing) (found : Found) : Type 0 where
   pub standing : IsStanding s
   pub members : HaveSameMembers s.edit.now s.before s.after

@@ -1,8 +1,9 @@
 -- Private.
 -- What is found of a component's mappings, where its members stand in another order.
 --
--- Clauses keep their order, and so do falls and points. Positions are numbered by members, so they have other numbers. `places`
--- are the places where the members stood, and `olds` the numbers that the positions had, for each of them as they stand now.
+-- Clauses keep their order, and so do falls and points. Positions are numbered by members, so they have other numbers.
+-- `places` are the places where the members stood, and `olds` the numbers that the positions had, for each of them as
+-- they stand now.
 use Rattle.std.specs.Prelude.{◌≡◌, ◌&&◌, ℕ, suc, nat_eq, pos, if◌then◌else◌, Bool, List, [], ◌∷◌, length, map, filter, option_map, slice_get, slice_index_or, Some}
 use Rattle.std.specs.List.{flat_map, list_any}
 use Rattle.cti_terms.specs.Listing.{Listing}

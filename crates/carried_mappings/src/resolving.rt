@@ -171,10 +171,10 @@ fn resolve_sources<N: Norm>(
 
 /// What is found of the mappings of a program's components after an edit, from what was found before it.
 ///
-/// A component that stands for an old one has the mappings and the refutation of that one, in whatever order its members
-/// stand; with them in the same order it has all that was found of that one. Each other recursive component is searched,
-/// and of one that is not recursive nothing is found. `sizes` are the size rows after the edit, as `resolve_sizes` gives
-/// them from `old`.
+/// A component that stands for an old one has the mappings and the refutation of that one, in whatever order its
+/// members stand; with them in the same order it has all that was found of that one. Each other recursive component is
+/// searched, and of one that is not recursive nothing is found. `sizes` are the size rows after the edit, as
+/// `resolve_sizes` gives them from `old`.
 pub fn resolve_mappings<'a, D: Domain, N: Norm>(
     alloc: Global,
     norm: &N,

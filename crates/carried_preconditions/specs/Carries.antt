@@ -15,8 +15,8 @@ use Rattle.solved_program.specs.Standing.{KeepOwn, StandsFor}
 use Rattle.solved_program.specs.declared.edit.Edit.{Edit}
 use Rattle.carried_preconditions.specs.Same.{coefficient_lists, paired}
 
--- A component that stands for an old one, by ground rows and by what is allowed, and whose members have the ground rows, the
--- coefficients and the sets that they had, has its greatest preconditions.
+-- A component that stands for an old one, by ground rows and by what is allowed, and whose members have the ground
+-- rows, the coefficients and the sets that they had, has its greatest preconditions.
 abbrev pub SolvedCarriesOver : Type 0
 SolvedCarriesOver = (truth : (ℕ → Bool) → Tree → Bool) (e : Edit) (b c : ℕ) (trees : List Rows) (old_grounds grounds : Family) (old_levels levels : List (List LevelPart)) (old_sets sets : List (List Diagram))
     → IsProgram e.before.now → IsProgram e.after.now → IsEdit e

@@ -67,8 +67,8 @@ module _ {N : Type 0} (truth : (ℕ → Bool) → Tree → Bool) (s : Preconditi
   abbrev pub AreNew : List Rows → SolvedPreconditions → Type 0
   AreNew trees solved = ArePreconditions truth s.clauses.now.edit.now.after.now s.clauses.now.edit.now.components.now trees s.inputs.now solved
 
-  -- The components below n have their greatest sets, and those of them that stand for old ones have kept their diagrams. All
-  -- later ones have what they had before the edit.
+  -- The components below n have their greatest sets, and those of them that stand for old ones have kept their
+  -- diagrams. All later ones have what they had before the edit.
   pub record AreSolvedTo (n : ℕ) (trees : List Rows) (sets : List (List Diagram)) (allowed : List Diagram) : Type 0 where
     pub sets_are : AreMappingSets s.clauses.now.edit.now.after.now.preds trees sets
     pub allowed_are : AreUnions s.clauses.now.edit.now.after.now.preds trees sets allowed

@@ -34,8 +34,8 @@ pub record ArePreconditions (truth : (ℕ → Bool) → Tree → Bool) (p : List
 abbrev pub rows_with : List Pred → List Rows → Inputs → List Diagram → ℕ → (List Bool → Bool) × (List Bool → Bool)
 rows_with preds trees inputs allowed = paired (family_of preds trees inputs.grounds.now) (family_of preds trees allowed)
 
--- Of the components below n, each that stands for an old one, by ground rows and by what is allowed, and whose members have
--- the ground rows and the coefficients that they had, has the diagrams that it had.
+-- Of the components below n, each that stands for an old one, by ground rows and by what is allowed, and whose members
+-- have the ground rows and the coefficients that they had, has the diagrams that it had.
 abbrev pub KeepSetsTo : Edit → ℕ → List Rows → List Rows → PreconditionsBefore → Inputs → List (List Diagram) → List Diagram → Type 0
 KeepSetsTo e n trees new_trees before inputs sets allowed = (b c : ℕ) → c < n
     → StandsFor e.components_before.now e.components.now b c (rows_with e.before.now.preds trees before.inputs before.solved.now.allowed) (rows_with e.after.now.preds new_trees inputs allowed)

@@ -2,7 +2,8 @@
 
 use std::alloc::{AllocError, Global};
 
-/// What a file is that differs from another in one line: its name, the name of the other, and the number of the line, from 1.
+/// What a file is that differs from another in one line: its name, the name of the other, and the number of the line,
+/// from 1.
 pub(crate) struct Change {
     pub(crate) name: String,
     pub(crate) base: String,

@@ -1,4 +1,5 @@
--- The modes of `app([],L,L).` and `app([H|T],L,[H|R]) :- app(T,L,R).`, with a mapping by the first argument and one by the third.
+-- The modes of `app([],L,L).` and `app([H|T],L,[H|R]) :- app(T,L,R).`, with a mapping by the first argument and one by
+-- the third.
 --
 -- The modes [1] and [3] hold. The mode [2] does not, and [3] does not without the second precondition.
 use Rattle.std.proofs.Common.{◌≡◌, ℕ, pos, true, false, List, [], ◌∷◌, map, None, refl}

@@ -1,5 +1,6 @@
 -- To believe, for the modes.
--- When the modes of a certificate hold: its ground rows are closed, its preconditions keep their rule, and each mode is admitted.
+-- When the modes of a certificate hold: its ground rows are closed, its preconditions keep their rule, and each mode is
+-- admitted.
 --
 -- To believe: all of this file. Predicates and mappings are numbered from 0 here.
 -- Source: preconditions as in Mesnard and Neumerkel 2001, one for each mapping.
@@ -49,7 +50,8 @@ pub record ModesHold (truth : (ℕ → Bool) → Tree → Bool) (p : Listing) (c
   pub closed : IsClosed truth p (grounds_of p parts)
   -- a row of a precondition is true wherever the mapping's coefficient is positive
   pub covered : (m q : ℕ) (row : List Bool) → IsTrue (precondition p parts m q row) → Covers (coefficients_of parts.levels m q) row
-  -- from a row of the head, each call that is reached has a row in turn: of the same mapping within the component, else an allowed one
+  -- from a row of the head, each call that is reached has a row in turn: of the same mapping within the component, else
+  -- an allowed one
   pub rule : (m : ℕ) → AllByRecursion (λ (k : Clause). KeepsSets truth (precondition p parts m) (allowed p parts) (grounds_of p parts) (λ q. is_together comps q k.head.pred.0) k) p.clauses
   -- the row of each mode is allowed
   pub modes : (q : ℕ) → AllByRecursion (λ mode. IsTrue (allowed p parts q (mode_row mode 1 (arity_in p q)))) (items_of parts.modes q)

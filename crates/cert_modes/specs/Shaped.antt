@@ -12,7 +12,8 @@ use Rattle.number_tests.specs.declared.level_part.LevelPart.{LevelPart}
 abbrev pub IsWide : ℕ → LevelPart → Type 0
 IsWide arity level = length level.coeffs ≡ arity
 
--- modes, ground rows and mappings for each predicate, and a precondition for each mapping, each of the predicate's arity
+-- modes, ground rows and mappings for each predicate, and a precondition for each mapping, each of the predicate's
+-- arity
 pub record HaveSets (p : Listing) (parts : Parts) : Type 0 where
   pub modes : length parts.modes ≡ length p.preds
   pub grounds : AreEach (length p.preds) (λ a. AllByRecursion (HasWidth (arity_in p a))) parts.grounds

@@ -25,9 +25,9 @@ use term_size::Norm;
 
 /// The first fault of a certificate's modes: nothing, exactly where they hold.
 ///
-/// `line` is the line of the first predicate's modes, and each predicate has one line. A fault names the lowest line, and at
-/// that line the first reason in the order of `ModeReason`. Each set is one diagram of one table, and a clause is tested once
-/// for each mapping of its head.
+/// `line` is the line of the first predicate's modes, and each predicate has one line. A fault names the lowest line,
+/// and at that line the first reason in the order of `ModeReason`. Each set is one diagram of one table, and a clause
+/// is tested once for each mapping of its head.
 pub fn mode_fault<N: Norm>(
     alloc: Global,
     p: &Program,

@@ -18,7 +18,8 @@ use std::alloc::AllocError;
 use term_size::Norm;
 use truth_rows::{admits, is_closed_under};
 
-/// Marks each predicate with a clause that gives a row which its set lacks, and each built-in one whose set lacks its stated row.
+/// Marks each predicate with a clause that gives a row which its set lacks, and each built-in one whose set lacks its
+/// stated row.
 pub(crate) fn mark_open<N: Norm>(
     norm: &N,
     table: &mut Table,

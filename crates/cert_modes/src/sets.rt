@@ -52,7 +52,8 @@ impl Sets {
         })
     }
 
-    /// The precondition of a predicate for the mapping of this number, from 0 on, or no rows where there is no such mapping.
+    /// The precondition of a predicate for the mapping of this number, from 0 on, or no rows where there is no such
+    /// mapping.
     pub(crate) fn precondition(&self, pred: PredId, mapping: usize) -> Diagram
         requires { pred.0 < length self.now.preconditions }
         ensures { result ≡ set_at self.now.preconditions self.now.none mapping pred.0 }

@@ -1,4 +1,5 @@
--- What the components of a program say does not depend on their numbers, and predicates are distinguished by their texts.
+-- What the components of a program say does not depend on their numbers, and predicates are distinguished by their
+-- texts.
 use Rattle.std.proofs.Common.{◌≡◌, ◌≢◌, ℕ, zero, suc, ◌+◌, ◌<◌, ◌≤◌, Bool, true, false, List, [], ◌∷◌, length, slice_get, slice_index, slice_index_or, Option, Some, None, option_and_then, unwrap_or, refl, ap, ap₂, sym, ◌∙◌, subst, arith, eqb-true, eq-eqb, nat_lt, ltb-true, ltb-false, add-one}
 use Rattle.std.proofs.lemmas.Bool.{false≢true}
 use Rattle.std.proofs.lemmas.Option.{none-some}

@@ -1,4 +1,5 @@
--- Points that a fact begins, where facts of either kind of certificate list them so: what is read is listed so, and what is listed so is read.
+-- Points that a fact begins, where facts of either kind of certificate list them so: what is read is listed so, and
+-- what is listed so is read.
 use Rattle.std.proofs.Common.{◌≡◌, ℕ, zero, suc, ◌≤◌, Bool, true, false, ◌&&◌, ◌==◌, if◌then◌else◌, List, [], ◌∷◌, ◌++◌, length, Option, Some, None, Ok, refl, ap, sym, ◌∙◌, arith, eqb-true, eq-eqb, append_assoc}
 use Rattle.std.proofs.lemmas.Bool.{and_parts}
 use Rattle.std.specs.List.{AllByRecursion}

@@ -1,4 +1,5 @@
--- The first wrong fact depends on the facts up to it alone, and a fact that may not stand at a place may not stand there with other contents.
+-- The first wrong fact depends on the facts up to it alone, and a fact that may not stand at a place may not stand
+-- there with other contents.
 use Rattle.std.proofs.Common.{◌≡◌, ℕ, zero, suc, ◌+◌, ◌⊎◌, inl, inr, Bool, true, false, ◌&&◌, ◌==◌, nat_le, map, if◌then◌else◌, List, [], ◌∷◌, ◌++◌, length, Option, Some, None, Result, Ok, Err, refl, ap, ap₂, sym, ◌∙◌, subst, arith, append_assoc}
 use Rattle.std.specs.Prelude.{ℤ, pos}
 use Rattle.std.specs.Ordering.{int_eq}

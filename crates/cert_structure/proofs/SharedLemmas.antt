@@ -1,4 +1,5 @@
--- Facts that certificates of mappings and of lists both have: what is read of them has their lines, and their lines are read.
+-- Facts that certificates of mappings and of lists both have: what is read of them has their lines, and their lines are
+-- read.
 use Rattle.std.proofs.Common.{◌≡◌, ◌≢◌, ℕ, suc, ◌<◌, ◌≤◌, ◌⊎◌, inl, inr, ◌&&◌, ◌==◌, nat_le, List, [], ◌∷◌, ◌++◌, map, length, Some, None, Ok, refl, ap, sym, ◌∙◌, subst, arith, eqb-true, eq-eqb, le-leb, leb-true, ne_eqb}
 use Rattle.std.proofs.lemmas.Bool.{and_parts}
 use Rattle.std.specs.Prelude.{ℤ}

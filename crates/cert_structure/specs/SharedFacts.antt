@@ -1,5 +1,6 @@
 -- Private.
--- What a fact says, where certificates of mappings and of lists of mappings both have such facts. Nothing here has to be believed.
+-- What a fact says, where certificates of mappings and of lists of mappings both have such facts. Nothing here has to
+-- be believed.
 use Rattle.std.specs.Prelude.{ℕ, ℤ, List}
 use Rattle.certificate.specs.declared.cell.CertCell.{CertCell}
 use Rattle.certificate.specs.declared.fact.Fact.{Fact}

@@ -1,5 +1,6 @@
 -- To believe, for the command.
--- The first fault in the structure of a certificate: the fact that is wrong, missing or out of place, and what is wrong with it.
+-- The first fault in the structure of a certificate: the fact that is wrong, missing or out of place, and what is wrong
+-- with it.
 --
 -- To believe: all of this file, and below it Structure.antt. Lines are counted from 1.
 use Rattle.std.specs.Prelude.{◌≡◌, ℕ, suc, ◌≤◌, ℤ, List, [], ◌∷◌, ◌++◌, length, Option, Some}
@@ -21,7 +22,8 @@ use Rattle.cert_structure.specs.Order.{pred_text, point_facts, listed}
 use Rattle.cert_structure.specs.Shape.{HaveShape}
 use Rattle.cert_structure.specs.Structure.{AreNotes, IsStructured}
 
--- two facts of one place: they are of one kind and of the same predicate, clause, call, mapping and row, and differ at most in what they say of it
+-- two facts of one place: they are of one kind and of the same predicate, clause, call, mapping and row, and differ at
+-- most in what they say of it
 pub data HaveOnePlace : Fact → Fact → Type 0 where
   itself : {f : Fact} → HaveOnePlace f f
   version : {v w : ℤ} → HaveOnePlace (fact.Cti v) (fact.Cti w)

@@ -7,7 +7,8 @@ use thiserror::Error;
 /// Why a certificate has no parts.
 #[derive(Clone, Copy, Debug, PartialEq, Eq, Error)]
 pub enum PartsFault {
-    /// The fact of this line, counted from 1, is the first that is wrong. Where a fact is missing, the line is that after the last.
+    /// The fact of this line, counted from 1, is the first that is wrong. Where a fact is missing, the line is that
+    /// after the last.
     #[error("line {line} of the certificate: {reason}")]
     Wrong { line: u64, reason: StructureReason },
     /// Memory ran out.

@@ -1,7 +1,7 @@
 //! The parts of a certificate: what it claims of each predicate and clause of a program, and with which proofs.
 //!
-//! A certificate is a list of facts. `parts_of` sorts them by predicates and clauses, or names the first that is wrong, out
-//! of place or missing. What parts a certificate has is `IsStructured` of `specs/Structure.antt`, and which fault
+//! A certificate is a list of facts. `parts_of` sorts them by predicates and clauses, or names the first that is wrong,
+//! out of place or missing. What parts a certificate has is `IsStructured` of `specs/Structure.antt`, and which fault
 //! `IsStructureFault` of `specs/StructureFault.antt`. Whether what it claims is true is not asked here.
 //!
 //! It depends on `certificate` and `fact_reading` for facts, on `cti_terms` and `call_components` for programs, and on

@@ -43,8 +43,8 @@ fn copied(alloc: Global, numbers: &[i128]) -> Result<Numbers, AllocError>
     Ok(Numbers::from_vec(Vec::from_slice(alloc, numbers)?))
 }
 
-/// Multipliers, one for each of `rows` rows. `Shape` where there are more or fewer, or where one of them or the scale is
-/// below 0.
+/// Multipliers, one for each of `rows` rows. `Shape` where there are more or fewer, or where one of them or the scale
+/// is below 0.
 pub fn multipliers(
     alloc: Global,
     rows: u128,
@@ -62,8 +62,8 @@ pub fn multipliers(
     })
 }
 
-/// A row with a constant and a coefficient for each of `arity` arguments. `Shape` where there are more or fewer numbers, or
-/// where one is -2^127.
+/// A row with a constant and a coefficient for each of `arity` arguments. `Shape` where there are more or fewer
+/// numbers, or where one is -2^127.
 pub fn size_row(alloc: Global, arity: u32, row: &[i128]) -> Result<Row, FactFault>
     ensures { AgreesKept result (row_read arity row.now) }
 {
@@ -79,8 +79,8 @@ pub fn size_row(alloc: Global, arity: u32, row: &[i128]) -> Result<Row, FactFaul
     })
 }
 
-/// A level with a coefficient for each of `arity` arguments. `Shape` where there are more or fewer, or where one of them or
-/// the offset is below 0.
+/// A level with a coefficient for each of `arity` arguments. `Shape` where there are more or fewer, or where one of
+/// them or the offset is below 0.
 pub fn level(
     alloc: Global,
     arity: u32,
@@ -98,8 +98,8 @@ pub fn level(
     })
 }
 
-/// A point with a value for each of `vars` variables. `Shape` where there are more or fewer, or where one of them or `t` is
-/// below 0.
+/// A point with a value for each of `vars` variables. `Shape` where there are more or fewer, or where one of them or
+/// `t` is below 0.
 pub fn scaled_point(alloc: Global, vars: u32, t: i128, w: &[i128]) -> Result<Point, FactFault>
     ensures { AgreesKept result (point_read vars t w.now) }
 {

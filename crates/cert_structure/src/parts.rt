@@ -30,7 +30,8 @@ pub struct Parts {
     /// The parts of each predicate in the mappings of its component.
     pub levels: Sequence<Sequence<LevelPart>>,
 
-    /// For each clause and each call of its body, the multipliers for each mapping, and none where the call is to a lower component.
+    /// For each clause and each call of its body, the multipliers for each mapping, and none where the call is to a
+    /// lower component.
     pub falls: Sequence<Sequence<Sequence<Multipliers>>>,
 
     /// For each predicate and each mapping of its component, the cubes of the precondition.

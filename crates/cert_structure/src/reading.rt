@@ -181,8 +181,8 @@ pub fn told_apart(p: &Program, names: &Names)
 
 /// The parts of a certificate: what it claims of each predicate and clause of a program, and with which proofs.
 ///
-/// It takes time linear in the sizes of the certificate and of the program. Fails with `Wrong`, and the line of the first fault,
-/// where the certificate has no parts.
+/// It takes time linear in the sizes of the certificate and of the program. Fails with `Wrong`, and the line of the
+/// first fault, where the certificate has no parts.
 pub fn parts_of(
     alloc: Global,
     p: &Program,
@@ -197,7 +197,8 @@ pub fn parts_of(
     ensures found { IfOk result
         (λ parts. IsStructured p.now names.now comps.now parts c.now.facts) }
 
-    // The parts of a certificate are found, unless memory runs out; so it has no others, and none where a line is wrong.
+    // The parts of a certificate are found, unless memory runs out; so it has no others, and none where a line is
+    // wrong.
     ensures only { (parts : TheParts) → IsStructured p.now names.now comps.now parts c.now.facts
         → MatchResult result (λ found. found ≡ parts) (λ fault. fault ≡ Memory) }
 

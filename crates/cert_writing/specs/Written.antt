@@ -10,7 +10,8 @@ use Rattle.cert_structure.specs.declared.parts.Parts.{Parts}
 use Rattle.cert_structure.specs.Order.{pred_text, cell_of, level_facts, fall_facts, pre_facts, refuted_facts}
 use Rattle.cert_writing.specs.declared.model.WrittenModel.{WrittenModel}
 
--- the facts of either kind of certificate for modes, size rows, their proofs, and ground rows, by how each of them is made
+-- the facts of either kind of certificate for modes, size rows, their proofs, and ground rows, by how each of them is
+-- made
 abbrev pub model_facts : {F : Type 0} → (PredText → List (List ℕ) → F) → (PredText → ℕ → List ℤ → F) → (ℕ → ℕ → ℤ → List ℤ → F) → (PredText → ℕ → List CertCell → F)
     → Listing → List (List ℕ) → WrittenModel → List F
 model_facts mode_fact size_fact proof_fact ground_fact p names m =

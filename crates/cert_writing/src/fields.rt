@@ -8,8 +8,8 @@ use certificate::CertCell;
 use sequences::Sequence;
 use std::alloc::{AllocError, Global};
 
-/// The number from 1 of an item that counts from 0. Where it has more than 32 bits this is out of memory: no program has
-/// so many clauses, calls or mappings.
+/// The number from 1 of an item that counts from 0. Where it has more than 32 bits this is out of memory: no program
+/// has so many clauses, calls or mappings.
 pub fn counted(number: u64) -> Result<u32, AllocError>
     requires { number + 1 < 2 ^ 64 }
     ensures { IfOk result (λ n. n ≡ suc number) }

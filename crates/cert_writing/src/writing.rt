@@ -58,8 +58,8 @@ fn write_mappings(
     )
 }
 
-/// The certificate of parts, with notes after their facts: `parts_of` finds these parts in it, where they have the shape
-/// of the program.
+/// The certificate of parts, with notes after their facts: `parts_of` finds these parts in it, where they have the
+/// shape of the program.
 pub fn facts_of(
     alloc: Global,
     p: &Program,

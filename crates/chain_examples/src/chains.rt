@@ -89,8 +89,8 @@ fn append(rt: HostRuntime) -> Result<(), Fail> {
     Ok(())
 }
 
-/// The rows of a predicate, by its number, and how many images are weak. `part` keeps x2 = x3 + x4. The last predicate of the
-/// doubling chain has no rows, since both images of its clause are weak.
+/// The rows of a predicate, by its number, and how many images are weak. `part` keeps x2 = x3 + x4. The last predicate
+/// of the doubling chain has no rows, since both images of its clause are weak.
 #[test]
 fn rows_of_predicates(rt: HostRuntime) -> Result<(), Fail> {
     for (text, pred, weak, wanted) in [

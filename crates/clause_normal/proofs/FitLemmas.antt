@@ -1,4 +1,5 @@
--- Lemmas on the clauses of a body: how many disjunctions it has, and that its atoms have no more arguments than predicates have.
+-- Lemmas on the clauses of a body: how many disjunctions it has, and that its atoms have no more arguments than
+-- predicates have.
 use Rattle.std.proofs.Common.{◌≡◌, ℕ, suc, ◌+◌, ◌<◌, ◌≤◌, ◌||◌, Bool, true, false, IsTrue, nat_lt, if◌then◌else◌, List, [], ◌∷◌, ◌++◌, length, map, refl, sym, subst, arith}
 use Rattle.std.specs.List.{AllByRecursion}
 use Rattle.std.proofs.lemmas.Bool.{and_parts, ltb-true, ltb-false}

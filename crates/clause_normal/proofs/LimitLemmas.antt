@@ -1,4 +1,5 @@
--- The clauses that are made of a clause are no larger than it: no more variables, no more nodes of arguments, no more calls than nodes.
+-- The clauses that are made of a clause are no larger than it: no more variables, no more nodes of arguments, no more
+-- calls than nodes.
 use Rattle.std.proofs.Common.{◌≡◌, ◌≢◌, ℕ, suc, ◌+◌, ◌≤◌, ◌||◌, Bool, true, false, nat_lt, nat_eq, if◌then◌else◌, cond, List, [], ◌∷◌, ◌++◌, map, length, Option, Some, None, Result, Ok, Err, ◌⊎◌, inl, inr, refl, sym, ◌∙◌, ap, subst, append_assoc, append-nil, length-append, arith, sum_by, eqb-true, eq-eqb}
 use Rattle.std.specs.List.{AllByRecursion, filter}
 use Rattle.std.proofs.lemmas.Bool.{ltb-true, ltb-false}
@@ -256,7 +257,8 @@ pub weight : Goals → ℕ
 weight no_goals = 0
 weight (more_goals g gs) = goal_weight g + weight gs
 
--- limits: the variables are among some, and bodies have at most the given number of goals and nodes, with those of their heads
+-- limits: the variables are among some, and bodies have at most the given number of goals and nodes, with those of
+-- their heads
 module _ (most : ℕ) (ys : List ℕ) where
   abbrev mutual
     pub GoalsFit : Goals → Type 0

@@ -1,9 +1,10 @@
 -- To believe, for reading.
 -- The goals of a clause's body.
 --
--- A body is a conjunction: its goals are a list, and `true` is not a goal. A disjunction is a goal with its list of branches, each of
--- them a body again. It becomes the call of a predicate of its own, and that predicate's arguments are those of its variables
--- that occur elsewhere in the clause that is made. The clause of a branch has that predicate as its head.
+-- A body is a conjunction: its goals are a list, and `true` is not a goal. A disjunction is a goal with its list of
+-- branches, each of them a body again. It becomes the call of a predicate of its own, and that predicate's arguments
+-- are those of its variables that occur elsewhere in the clause that is made. The clause of a branch has that predicate
+-- as its head.
 --
 -- To believe: all of this file.
 use Rattle.std.specs.Prelude.{ℕ, ◌||◌, nat_lt, List, [], ◌∷◌, ◌++◌, filter, length, if◌then◌else◌}
@@ -20,7 +21,8 @@ use Rattle.clause_normal.specs.declared.words.Connective.{Connective}
 use Rattle.clause_normal.specs.declared.words.Connective.TheVariants as connective
 
 mutual
-  -- a call of a name with arguments; a disjunction with the arguments of its predicate; or what may not stand in a body, with its place
+  -- a call of a name with arguments; a disjunction with the arguments of its predicate; or what may not stand in a
+  -- body, with its place
   pub data Goal : Type 0 where
     call : ℕ → List Term → Goal
     choice : List ℕ → Branches → Goal
@@ -59,13 +61,13 @@ abbrev pub joined_branches : Branches → Branches → Branches
 joined_branches no_branches cs = cs
 joined_branches (more_branches b bs) cs = more_branches b (joined_branches bs cs)
 
--- The arguments of a disjunction's predicate, where the clause has the variables `all` and the disjunction `own`, as often as they
--- occur: those of its own that occur more often in the clause, each once, in order of first occurrence.
+-- The arguments of a disjunction's predicate, where the clause has the variables `all` and the disjunction `own`, as
+-- often as they occur: those of its own that occur more often in the clause, each once, in order of first occurrence.
 abbrev pub arguments : List ℕ → List ℕ → List ℕ
 arguments all own = firsts (filter (λ x. nat_lt (count own x) (count all x)) own)
 
--- A body's goals, where the clause that is made has the variables `all`; and the branches that it gives to a disjunction, where the
--- disjunction's predicate has these arguments.
+-- A body's goals, where the clause that is made has the variables `all`; and the branches that it gives to a
+-- disjunction, where the disjunction's predicate has these arguments.
 pub record Body : Type 0 where
   pub goals : List ℕ → Goals
   pub branches : List ℕ → Branches

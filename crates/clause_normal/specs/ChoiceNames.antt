@@ -1,6 +1,6 @@
 -- To believe, for reading.
--- The names that the normal form adds: those of arithmetic operations, and after them those of the disjunctions' predicates, in the
--- order in which they are called.
+-- The names that the normal form adds: those of arithmetic operations, and after them those of the disjunctions'
+-- predicates, in the order in which they are called.
 --
 -- To believe: all of this file, and in prolog_reader `with_names`.
 use Rattle.std.specs.Prelude.{ℕ, nat_eq, IsTrue, List, [], ◌∷◌, ◌++◌, Result, Ok, Err}

@@ -1,9 +1,9 @@
 -- To believe, for sessions.
 -- The program of definite clauses, whose bodies are conjunctions.
 --
--- A disjunction is impure here, at its own place, and no directive is a clause. So each clause is one of the program, in order, and only
--- the clause of =/2 is more. What is wrong with a clause does not depend on those before it, but for how many there are: so clauses may
--- come and go.
+-- A disjunction is impure here, at its own place, and no directive is a clause. So each clause is one of the program,
+-- in order, and only the clause of =/2 is more. What is wrong with a clause does not depend on those before it, but for
+-- how many there are: so clauses may come and go.
 --
 -- To believe: all of this file.
 use Rattle.std.specs.Prelude.{◌≡◌, ◌≤◌, ℕ, nat_le, List, [], ◌∷◌, ◌++◌, Option, Some, None, length, if◌then◌else◌}
@@ -44,7 +44,8 @@ parted names (tree at (Var x)) = fact (tree at (Var x))
 parted names (tree at (Int n)) = fact (tree at (Int n))
 parted names (tree at (Fun f ts)) = named_parts (tree at (Fun f ts)) (neck_of (name_text names f) (arity ts)) (list_of ts)
 
--- the first fault of a term of these parts: the head's, those of the body's goals from left to right, then too many variables
+-- the first fault of a term of these parts: the head's, those of the body's goals from left to right, then too many
+-- variables
 abbrev pub parts_fault : List (List ℕ) → Tree → Parted → Option Fault
 parts_fault names t (no_clause k) = Some (k, place t)
 parts_fault names t (fact h) = first_of (head_fault names h) (variables_fault (place t) (occurrences t))

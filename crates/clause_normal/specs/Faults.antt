@@ -34,7 +34,8 @@ abbrev pub AnswersNumber : Made → List Rule → Result ℕ NormFault → Type 
 AnswersNumber m made (Ok n) = m ≡ Ok (made, n)
 AnswersNumber m made (Err e) = IfFault e (λ f. m ≡ Err f)
 
--- the answer is well where this is no fault, where these clauses are the ones that are made and this is the next number; else it is the fault
+-- the answer is well where this is no fault, where these clauses are the ones that are made and this is the next
+-- number; else it is the fault
 abbrev pub AnswersMade : Option Fault → List Rule → ℕ → List Rule → Result ℕ NormFault → Type 0
 AnswersMade fault rules after made (Ok n) = (fault ≡ None) × (made ≡ rules) × (n ≡ after)
 AnswersMade fault rules after made (Err e) = IfFault e (λ f. fault ≡ Some f)

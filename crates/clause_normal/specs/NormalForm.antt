@@ -1,8 +1,9 @@
 -- To believe, for reading.
 -- The program of a text's clauses, or the first fault.
 --
--- Clauses are taken in order. For each of them a fault of its kind comes first, then the head's, then those of the body's goals from left
--- to right, each disjunction before its branches, then too many variables, then too many clauses.
+-- Clauses are taken in order. For each of them a fault of its kind comes first, then the head's, then those of the
+-- body's goals from left to right, each disjunction before its branches, then too many variables, then too many
+-- clauses.
 --
 -- To believe: all of this file.
 use Rattle.std.specs.Prelude.{ℕ, Bool, nat_lt, List, [], ◌∷◌, ◌++◌, Option, Some, None, Result, Ok, Err, length, false, if◌then◌else◌}

@@ -32,7 +32,8 @@ name_number names (chosen m) = number_of names (choice_text m)
 abbrev pub pred_of : List (List ℕ) → Call → Pred
 pred_of names c = record { name = record { 0 = name_number names c.functor }; arity = length c.args }
 
--- the atom of a call after these predicates, where variables have these places: a predicate that is there has its number, another one the next
+-- the atom of a call after these predicates, where variables have these places: a predicate that is there has its
+-- number, another one the next
 abbrev pub atom_after : List (List ℕ) → List ℕ → List Pred → Call → Atom
 atom_after names order preds c =
     let p = pred_of names c in

@@ -1,6 +1,6 @@
 -- Private.
--- Bodies that are taken apart: the goals of each body, where the arguments of a disjunction's predicate are not known. Nothing here has to
--- be believed.
+-- Bodies that are taken apart: the goals of each body, where the arguments of a disjunction's predicate are not known.
+-- Nothing here has to be believed.
 use Rattle.std.specs.Prelude.{ℕ, ◌<◌, List, [], ◌∷◌, ◌++◌}
 use Rattle.std.specs.List.{AllByRecursion}
 use Rattle.clause_normal.specs.Bodies.{Goal, Goals, Branches, no_goals, more_goals, no_branches, more_branches, arguments, choice_goal}

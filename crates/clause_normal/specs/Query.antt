@@ -1,8 +1,9 @@
 -- To believe, for reading.
 -- The goal of a query, and the program with what it needs; or the first fault.
 --
--- A query is a conjunction of atoms. A disjunction in it is impure. Variables are numbered by first occurrence, and the goal's counter is
--- how many different ones there are. Its predicates that are new go after those of the program, and =/2 gets its clause where it is new.
+-- A query is a conjunction of atoms. A disjunction in it is impure. Variables are numbered by first occurrence, and the
+-- goal's counter is how many different ones there are. Its predicates that are new go after those of the program, and
+-- =/2 gets its clause where it is new.
 --
 -- To believe: all of this file.
 use Rattle.std.specs.Prelude.{◌≡◌, ℕ, List, [], ◌∷◌, ◌++◌, Option, Some, None, Result, Ok, Err, length, position, is_some, if◌then◌else◌}

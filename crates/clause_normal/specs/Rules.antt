@@ -1,8 +1,9 @@
 -- To believe, for reading.
 -- The clauses that a clause with disjunctions becomes, before predicates and variables are numbered.
 --
--- The predicates of disjunctions are numbered over the program: those of one clause from left to right before those inside their branches.
--- A clause is followed by the clauses of its disjunctions' branches, in order, each followed in the same way by those of its own.
+-- The predicates of disjunctions are numbered over the program: those of one clause from left to right before those
+-- inside their branches. A clause is followed by the clauses of its disjunctions' branches, in order, each followed in
+-- the same way by those of its own.
 --
 -- To believe: all of this file.
 use Rattle.std.specs.Prelude.{ℕ, ◌+◌, List, [], ◌∷◌, ◌++◌, map}

@@ -1,7 +1,8 @@
 -- To believe, for reading.
 -- The names that mean something in a clause, by text and arity.
 --
--- To believe: all of this file, the table of impure names in `src/words.rt`, and in cti_terms the kinds of built-in predicates.
+-- To believe: all of this file, the table of impure names in `src/words.rt`, and in cti_terms the kinds of built-in
+-- predicates.
 use Rattle.std.specs.Prelude.{ℕ, Bool, ◌&&◌, ◌||◌, ◌==◌, nat_eq, List, Option, Some, None, is_some, codes, take, if◌then◌else◌}
 use Rattle.std.specs.List.{list_any}
 use Rattle.std.specs.Cmp.Lexicographic.{pointwise}
@@ -68,6 +69,7 @@ neck_of text arity =
     else if same text (codes "-->") && (arity == 2) then Grammar
     else Fact
 
--- whether a directive of this name of the given arity asks for nothing here: an operator is set by the reader, and clauses may stand anywhere
+-- whether a directive of this name of the given arity asks for nothing here: an operator is set by the reader, and
+-- clauses may stand anywhere
 unfoldable pub is_silent : List ℕ → ℕ → Bool
 is_silent text arity = (same text (codes "op") && (arity == 3)) || (same text (codes "discontiguous") && (arity == 1))

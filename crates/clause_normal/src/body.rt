@@ -55,8 +55,8 @@ fn shared(
     Ok(Some(order))
 }
 
-/// A disjunction at a place in the text as a goal of a clause whose variables' places are noted. Its own variables, which
-/// start at a place among those of the clause, and its branches are given.
+/// A disjunction at a place in the text as a goal of a clause whose variables' places are noted. Its own variables,
+/// which start at a place among those of the clause, and its branches are given.
 fn choice_goal<'a, 'v, 'o>(
     alloc: Global,
     places: &Occurrences,
@@ -113,7 +113,8 @@ fn own<'v>(piece: &Piece<'_, 'v>) -> &'v [u32]
     }
 }
 
-/// The goals of a body of a clause whose variables' places are noted. Those of the body start at a place and are the last.
+/// The goals of a body of a clause whose variables' places are noted. Those of the body start at a place and are the
+/// last.
 fn goals<'a, 'v, 'o>(
     alloc: Global,
     places: &Occurrences,

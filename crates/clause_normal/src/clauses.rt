@@ -141,8 +141,8 @@ struct Implication<'a> {
     body: &'a ReadTerm,
 }
 
-/// Adds the clauses that a head with a body becomes, where the head is also given as a call and has these variables. Answers the number
-/// of the next disjunction, or the first fault of the body.
+/// Adds the clauses that a head with a body becomes, where the head is also given as a call and has these variables.
+/// Answers the number of the next disjunction, or the first fault of the body.
 fn add_with_variables<'a>(
     alloc: Global,
     names: &Names,
@@ -167,8 +167,8 @@ fn add_with_variables<'a>(
     add_rules(alloc, &mut places, made, next, call, args, &outline)
 }
 
-/// Adds the clauses that a head with a body becomes, which is also given as a call. Answers the number of the next disjunction, or
-/// the first fault of the body.
+/// Adds the clauses that a head with a body becomes, which is also given as a call. Answers the number of the next
+/// disjunction, or the first fault of the body.
 fn add_body<'a>(
     alloc: Global,
     names: &Names,

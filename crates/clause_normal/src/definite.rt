@@ -96,7 +96,8 @@ fn definite_rules<'a>(
     Ok(rules)
 }
 
-/// Reports the first fault of a clause that is to be added to this many definite clauses, if any. Its place counts bytes from 0.
+/// Reports the first fault of a clause that is to be added to this many definite clauses, if any. Its place counts
+/// bytes from 0.
 pub fn check_added(
     alloc: Global,
     clause: &ReadClause,
@@ -123,10 +124,11 @@ pub fn check_added(
 
 /// The program of definite clauses, which is their normal form.
 ///
-/// Each of them is a clause of the program, in order, and the clause of `=`/2 is last, where `=`/2 is called. Predicates and the
-/// variables of each clause are numbered by first occurrence.
+/// Each of them is a clause of the program, in order, and the clause of `=`/2 is last, where `=`/2 is called.
+/// Predicates and the variables of each clause are numbered by first occurrence.
 ///
-/// Only the names of arithmetic operations are added. After an error earlier names keep their numbers, and nothing else is left.
+/// Only the names of arithmetic operations are added. After an error earlier names keep their numbers, and nothing else
+/// is left.
 pub fn definite_program(
     alloc: Global,
     clauses: &[ReadClause],
@@ -141,8 +143,8 @@ pub fn definite_program(
     ensures program { IfOk result (λ p. p ≡ program_of names.new (map clause_of clauses.now)) }
     ensures sound { IfOk result IsProgram }
 
-    // The names of arithmetic operations are added, and where they are there, nothing is, also after an error. Earlier names keep their
-    // numbers, and those of the predicates are known.
+    // The names of arithmetic operations are added, and where they are there, nothing is, also after an error. Earlier
+    // names keep their numbers, and those of the predicates are known.
     ensures names { OnOk result (names.new ≡ with_names names.old operation_texts) }
     ensures kept { Extends names.old names.new }
     ensures same { HasOperations names.old → names.new ≡ names.old }

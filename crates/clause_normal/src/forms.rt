@@ -28,7 +28,8 @@ pub(crate) enum Form<'a> {
     Rule(&'a ReadTerm, &'a ReadTerm),
 }
 
-/// Whether a directive with this goal is skipped: it only declares operators, or that clauses of a predicate stand apart.
+/// Whether a directive with this goal is skipped: it only declares operators, or that clauses of a predicate stand
+/// apart.
 pub fn is_silent_goal(names: &Names, term: &ReadTerm) -> bool
     requires { IsTrue (is_known (length names.now) (tree_of term.now)) }
     ensures { result ≡ is_silent_goal names.now (tree_of term.now) }

@@ -1,4 +1,5 @@
-//! Where faults stand, what made clauses are, and definite clauses. Each is a function that does nothing, whose clauses are proved.
+//! Where faults stand, what made clauses are, and definite clauses. Each is a function that does nothing, whose clauses
+//! are proved.
 
 ghost use Rattle.std.specs.Prelude.{◌≡◌, ◌≤◌, ◌+◌, ℕ, List, [], ◌∷◌, ◌++◌, None, Ok, Err, length, take, drop, sum_by};
 ghost use Rattle.std.specs.List.{AllByRecursion};
@@ -67,7 +68,8 @@ pub fn definite_programs_are_normal()
         → normal_form names clauses ≡ Ok (program_of names clauses) }
 {}
 
-/// Definite clauses stay definite where one is added without a fault, where some in a row are taken out, and where names are added.
+/// Definite clauses stay definite where one is added without a fault, where some in a row are taken out, and where
+/// names are added.
 pub fn definite_clauses_come_and_go()
     ensures added { (names : List (List ℕ)) (clauses : List Clause) (c : Clause)
         → AreDefinite names clauses → added_fault names (length clauses) c ≡ None
@@ -80,7 +82,8 @@ pub fn definite_clauses_come_and_go()
         → AreDefinite later clauses }
 {}
 
-/// The program of definite clauses is the same where names are added, if those of arithmetic operations are there. Once added, they are.
+/// The program of definite clauses is the same where names are added, if those of arithmetic operations are there. Once
+/// added, they are.
 pub fn definite_programs_stay()
     ensures program { (names later : List (List ℕ)) (clauses : List Clause) → Extends names later
         → HasOperations names

@@ -30,7 +30,8 @@ fn choices(goal: &Goal) -> u64
     }
 }
 
-/// Adds the clause with this head and these goals, whose disjunctions are numbered from `first` on, and answers the number after them.
+/// Adds the clause with this head and these goals, whose disjunctions are numbered from `first` on, and answers the
+/// number after them.
 fn add_rule<'a>(
     alloc: Global,
     made: &mut Vec<Rule<'a>>,
@@ -55,8 +56,8 @@ fn add_rule<'a>(
     Ok(level.next)
 }
 
-/// Adds the clause with this head and this body, and those of its disjunctions' branches, whose predicates are numbered from `first` on.
-/// Answers the number after the last one, or the first fault.
+/// Adds the clause with this head and this body, and those of its disjunctions' branches, whose predicates are numbered
+/// from `first` on. Answers the number after the last one, or the first fault.
 #[cycle(making)]
 pub(crate) fn add_rules<'a, 'v, 'o>(
     alloc: Global,
@@ -82,8 +83,8 @@ pub(crate) fn add_rules<'a, 'v, 'o>(
     add_below(alloc, places, made, first, next, &goals)
 }
 
-/// Adds the clauses of the branches of the disjunctions among these goals. They are numbered from `first` on, and those in them
-/// from `next` on. Answers the number after the last one, or the first fault of the goals.
+/// Adds the clauses of the branches of the disjunctions among these goals. They are numbered from `first` on, and those
+/// in them from `next` on. Answers the number after the last one, or the first fault of the goals.
 #[cycle(making)]
 fn add_below<'a, 'v, 'o>(
     alloc: Global,
@@ -112,8 +113,8 @@ fn add_below<'a, 'v, 'o>(
     Ok(after)
 }
 
-/// Adds the clauses of the branches of a goal, if it is a disjunction, which has this number then. Those in it are numbered from `next` on.
-/// Answers the number after the last one, or the first fault of the goal.
+/// Adds the clauses of the branches of a goal, if it is a disjunction, which has this number then. Those in it are
+/// numbered from `next` on. Answers the number after the last one, or the first fault of the goal.
 #[cycle(making)]
 fn add_goal<'a, 'v, 'o>(
     alloc: Global,
@@ -144,8 +145,9 @@ fn add_goal<'a, 'v, 'o>(
     }
 }
 
-/// Adds the clauses of the branches of the disjunction with this number, whose predicate has these arguments. The disjunctions in them
-/// are numbered from `next` on. Answers the number after the last one, or the first fault of the branches.
+/// Adds the clauses of the branches of the disjunction with this number, whose predicate has these arguments. The
+/// disjunctions in them are numbered from `next` on. Answers the number after the last one, or the first fault of the
+/// branches.
 #[cycle(making)]
 fn add_branches<'a, 'v, 'o>(
     alloc: Global,

@@ -111,7 +111,8 @@ fn arity_of(args: &Args) -> usize
     }
 }
 
-/// The atom of a call, whose predicate is in the program then. More predicates than have numbers do not fit into memory.
+/// The atom of a call, whose predicate is in the program then. More predicates than have numbers do not fit into
+/// memory.
 fn add_atom(
     alloc: Global,
     program: &mut Program,

@@ -2,7 +2,8 @@
 
 use crate::part::Item;
 
-/// A goal of a body, where the arguments of a disjunction's predicate are not known. Variables are in order, with repetitions.
+/// A goal of a body, where the arguments of a disjunction's predicate are not known. Variables are in order, with
+/// repetitions.
 #[cycle(outlines)]
 #[derive(Drop)]
 pub(crate) enum Piece<'a, 'v> {

@@ -113,8 +113,8 @@ fn add_disjunction<'a, 'v>(
     Ok(rest)
 }
 
-/// Adds the branches that a body is in a disjunction: those of its sides where it is one itself, and else the body alone. Their
-/// variables are the first of these, and the others are answered.
+/// Adds the branches that a body is in a disjunction: those of its sides where it is one itself, and else the body
+/// alone. Their variables are the first of these, and the others are answered.
 #[cycle(outlining)]
 fn add_outlines<'a, 'v>(
     alloc: Global,

@@ -182,9 +182,9 @@ fn add_new_equality(
 
 /// The goal of a conjunction, with its variables numbered by first occurrence.
 ///
-/// A predicate that is not there is added to the program without clauses, and `=`/2 with its clause. A disjunction is impure here.
-/// A fault is the first, and its place counts bytes from 0. After a fault the program is unchanged; out of memory, its earlier
-/// predicates and clauses are.
+/// A predicate that is not there is added to the program without clauses, and `=`/2 with its clause. A disjunction is
+/// impure here. A fault is the first, and its place counts bytes from 0. After a fault the program is unchanged; out of
+/// memory, its earlier predicates and clauses are.
 pub fn normal_query(
     alloc: Global,
     query: &ReadClause,

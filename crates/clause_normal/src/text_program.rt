@@ -142,8 +142,9 @@ pub(crate) fn whole_program(
 
 /// The program of a text's clauses in normal form: bodies are conjunctions, each disjunction is a predicate of its own.
 ///
-/// A clause is followed by those of the branches of its disjunctions, and the clause of `=`/2 is last, where `=`/2 is called. Predicates
-/// and the variables of each clause are numbered by first occurrence. A fault is the first, and its place counts bytes from 0.
+/// A clause is followed by those of the branches of its disjunctions, and the clause of `=`/2 is last, where `=`/2 is
+/// called. Predicates and the variables of each clause are numbered by first occurrence. A fault is the first, and its
+/// place counts bytes from 0.
 ///
 /// After an error earlier names keep their numbers, and nothing else is left.
 pub fn normal(alloc: Global, text: &ReadText, names: &mut Names) -> Result<Program, NormFault>
@@ -155,8 +156,8 @@ pub fn normal(alloc: Global, text: &ReadText, names: &mut Names) -> Result<Progr
     ensures exact { MatchResult result (λ p. normal_form names.new text.now.clauses ≡ Ok p)
         (λ e. IfFault e (λ f. normal_form names.new text.now.clauses ≡ Err f)) }
 
-    // The names are those of the definition, and after a fault those that were there. Earlier names keep their numbers, and those of the
-    // predicates are known.
+    // The names are those of the definition, and after a fault those that were there. Earlier names keep their numbers,
+    // and those of the predicates are known.
     ensures names { OnOk result (names.new ≡ program_names names.old text.now.clauses) }
     ensures fault { IfErr result (λ e. IfFault e (λ _. names.new ≡ names.old)) }
     ensures kept { Extends names.old names.new }

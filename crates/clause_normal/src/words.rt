@@ -7,7 +7,8 @@ ghost use Rattle.clause_normal.specs.Words.{same, is_impure, builtin_named, buil
 
 use cti_terms::{Builtin, Name, Names};
 
-/// The names of what is not a pure resolution, and of what has a meaning in a clause, each with its number of arguments.
+/// The names of what is not a pure resolution, and of what has a meaning in a clause, each with its number of
+/// arguments.
 pub(crate) const IMPURE: [(&str, usize); 86] = [
     ("!", 0),
     (",", 2),

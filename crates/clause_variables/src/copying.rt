@@ -49,7 +49,8 @@ fn take_node(left: &mut u32) -> Result<(), AllocError>
     Ok(())
 }
 
-/// A term with its variables numbered by their places in an order. It goes down the term, which is no deeper than a reader allows.
+/// A term with its variables numbered by their places in an order. It goes down the term, which is no deeper than a
+/// reader allows.
 fn copied(alloc: Global, term: &ReadTerm, order: &[u32], left: &mut u32) -> Result<Term, AllocError>
     requires { length order.now < 2 ^ 32 }
     ensures term { IfOk result (λ t. tree_of t ≡ renumbered order.now (plain_of term.now)) }

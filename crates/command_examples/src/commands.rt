@@ -1,5 +1,5 @@
-//! Large inputs and outputs, and the adapters over a real file and a real writer. What words and files of ordinary size give stands
-//! in the program `cases`.
+//! Large inputs and outputs, and the adapters over a real file and a real writer. What words and files of ordinary size
+//! give stands in the program `cases`.
 
 use cti_top::{
     Files, KeptFiles, LoadFault, MemFiles, MemSink, RealFiles, RealSink, Sink, SinkFault, Status,
@@ -110,8 +110,8 @@ fn one_answer(
     }
 }
 
-/// Whether a term with this many `s` more than the program makes around its variable is printed as the query's one answer, or
-/// told to be large.
+/// Whether a term with this many `s` more than the program makes around its variable is printed as the query's one
+/// answer, or told to be large.
 fn is_deep_answer(alloc: Global, outer: usize, is_printed: bool) -> Result<bool, AllocError> {
     let step = nested(alloc, b"X", 990)?;
     let head = nested(alloc, b"X", outer)?;
@@ -171,7 +171,8 @@ fn all_splits(rt: HostRuntime) -> Result<(), Fail> {
     Ok(())
 }
 
-/// Whether a text as long as the longest that is read is answered, and one of a byte more refused, as a program and as a query.
+/// Whether a text as long as the longest that is read is answered, and one of a byte more refused, as a program and as
+/// a query.
 fn are_long_texts_refused(alloc: Global) -> Result<bool, AllocError> {
     let longest = repeated(alloc, b"", b"\n", 1_048_576)?;
     let long = repeated(alloc, &longest, b"\n", 1)?;
@@ -259,8 +260,8 @@ fn refusals(rt: HostRuntime) -> Result<(), Fail> {
     Ok(())
 }
 
-/// Whether a file of six bytes, whose name this is, is read where six may be, and refused where five may; and an empty name is
-/// a fault.
+/// Whether a file of six bytes, whose name this is, is read where six may be, and refused where five may; and an empty
+/// name is a fault.
 fn is_file_read(rt: &HostRuntime, name: &str) -> bool {
     let alloc = rt.alloc();
     let mut files = RealFiles {
@@ -284,8 +285,8 @@ fn a_real_file(rt: HostRuntime) -> Result<(), Fail> {
     Ok(())
 }
 
-/// Whether the texts of the loads that gave one are kept in their order, of a store whose second load fails and whose third is
-/// of too long a file.
+/// Whether the texts of the loads that gave one are kept in their order, of a store whose second load fails and whose
+/// third is of too long a file.
 fn are_texts_kept(alloc: Global) -> Result<bool, AllocError> {
     let mut files = KeptFiles::new(alloc, store(alloc, b"p(a).\n", &[2])?);
     Ok(
@@ -307,7 +308,8 @@ fn a_store_that_keeps(rt: HostRuntime) -> Result<(), Fail> {
     Ok(())
 }
 
-/// Whether a writer takes all that it is given, and the sink keeps it while it is at most 64 bytes, and then the first 64.
+/// Whether a writer takes all that it is given, and the sink keeps it while it is at most 64 bytes, and then the first
+/// 64.
 fn is_text_kept(alloc: Global) -> bool {
     let mut sink = RealSink::new(alloc, Vec::new(alloc), 64);
     sink.write(b"p(a).") == Ok(5)

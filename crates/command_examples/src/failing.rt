@@ -1,4 +1,5 @@
-//! Failing files and sinks: each load and each write of a command fails in turn; and an interrupted write, which is tried again.
+//! Failing files and sinks: each load and each write of a command fails in turn; and an interrupted write, which is
+//! tried again.
 
 use crate::commands::{APPEND, sink};
 use crate::texts::APPEND as CERTIFICATE;
@@ -31,7 +32,8 @@ fn store(alloc: Global, fails: &[u64]) -> Result<MemFiles, AllocError> {
     })
 }
 
-/// Whether the command ends with this status and writes this text, where the loads and the writes of these numbers fail.
+/// Whether the command ends with this status and writes this text, where the loads and the writes of these numbers
+/// fail.
 fn ends(
     alloc: Global,
     words: &[&str],
@@ -85,8 +87,8 @@ fn writes_fail(
     Ok(true)
 }
 
-/// Whether each of the loads of a command, and each of its first twenty writes, is a fault of files or of the output where it
-/// fails in turn.
+/// Whether each of the loads of a command, and each of its first twenty writes, is a fault of files or of the output
+/// where it fails in turn.
 fn faults_are_told(alloc: Global, words: &[&str], loads: u64) -> Result<bool, AllocError> {
     let text = written(alloc, words)?;
     for chunk in &CHUNKS {

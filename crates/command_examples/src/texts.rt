@@ -98,7 +98,8 @@ fn texts_are_refused_at_their_first_wrong_line(rt: HostRuntime) {
     }
 }
 
-/// Whether a certificate whose only fact is of a predicate with this name is printed so, and what is printed is refused at line 1.
+/// Whether a certificate whose only fact is of a predicate with this name is printed so, and what is printed is refused
+/// at line 1.
 fn is_printed_and_not_read(alloc: Global, name: &[u8], line: &[u8]) -> Result<bool, AllocError> {
     let mut facts = Sequence::new(alloc);
     facts.push(Fact::Grounds {

@@ -37,8 +37,8 @@ KeepsApart Known f = (q r : ℕ) → Known q → Known r → f q ≡ f r → q �
 abbrev pub AgreeOn : {X : Type 0} → (ℕ → Type 0) → (ℕ → ℕ) → (ℕ → X) → (ℕ → X) → Type 0
 AgreeOn Known f old new = (q : ℕ) → Known q → new (f q) ≡ old q
 
--- Some predicates of a program, the members, stand in another one under other numbers: they have the same clauses there, in
--- their order, where the predicates that these name have other numbers.
+-- Some predicates of a program, the members, stand in another one under other numbers: they have the same clauses
+-- there, in their order, where the predicates that these name have other numbers.
 pub record StandIn (Known : ℕ → Type 0) (f : ℕ → ℕ) (p new : Listing) (is_member is_new_member : ℕ → Bool) : Type 0 where
   pub known : (q : ℕ) → is_member q ≡ true → Known q
   pub apart : KeepsApart Known f

@@ -1,8 +1,9 @@
 -- Private.
 -- Which predicates stay as they are between two programs, and how their components stand in both.
 --
--- A predicate is known by its name and arity. It is untouched where some set of predicates has it, is closed under calls in both programs,
--- and has the same clauses in both, in their order. (The least such set are the predicates that it reaches.)
+-- A predicate is known by its name and arity. It is untouched where some set of predicates has it, is closed under
+-- calls in both programs, and has the same clauses in both, in their order. (The least such set are the predicates that
+-- it reaches.)
 --
 -- To believe: `AreUntouched`, and what it uses.
 use Rattle.std.specs.Prelude.{◌≡◌, ℕ, Bool, true, false, List, map, filter, slice_get, Option, None, Some}

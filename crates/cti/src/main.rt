@@ -17,7 +17,8 @@ use warnings::warn;
 /// How many bytes of the output are read for a message: more than the longest line of a refusal.
 const LONGEST_LINE: usize = 64;
 
-/// The words after the program's name, and whether the system gives all of them as text. If it does not, there are none.
+/// The words after the program's name, and whether the system gives all of them as text. If it does not, there are
+/// none.
 fn words(rt: &HostRuntime, alloc: Global) -> Result<(Vec<String>, bool), AllocError> {
     let mut words = Vec::new(alloc);
     match env::args(rt) {

@@ -1,6 +1,7 @@
 -- Worked examples: built-in predicates, evaluated.
 --
--- Names by number: 0 is `[]`, 1 is `'.'`, 2 is `a`, 3 is `b`, 6 is `+`, 7 is `-`, 8 is `*`. Variables by number: 0 is N.
+-- Names by number: 0 is `[]`, 1 is `'.'`, 2 is `a`, 3 is `b`, 6 is `+`, 7 is `-`, 8 is `*`. Variables by number: 0 is
+-- N.
 use Rattle.std.proofs.Common.{◌≡◌, ℕ, ◌^◌, ◌-◌, pos, negsuc, true, false, [], ◌∷◌, length, Some, None, refl}
 use Rattle.cti_terms.specs.Tree.{Tree, Variable, Integer, Compound, trees}
 use Rattle.cti_terms.specs.declared.atom_list.Atom.{Atom}

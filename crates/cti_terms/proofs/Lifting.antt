@@ -1,8 +1,8 @@
 -- Derivations lift: what clauses do to an instance they do to the more general goal.
 --
 -- The two steps raise the clause's variables by different counters. So the substitution that gives the instance goes on
--- from the general goal's counter by taking each raised variable of the one step to that of the other (`joined`).
--- Under the unifier of the instance it solves the general step's equations, so these have a unifier, through which it goes.
+-- from the general goal's counter by taking each raised variable of the one step to that of the other (`joined`). Under
+-- the unifier of the instance it solves the general step's equations, so these have a unifier, through which it goes.
 -- Then it gives the new instance of the new general goal. The instance's counter may be any.
 use Rattle.std.proofs.Common.{◌≡◌, ℕ, zero, suc, ◌+◌, ◌-◌, ◌<◌, ◌≤◌, true, false, ◌==◌, if◌then◌else◌, nat_lt, List, [], ◌∷◌, ◌++◌, map, length, Option, None, Some, IsSomeAnd, option_and_then, refl, ap, sym, ◌∙◌, subst, arith}
 use Rattle.std.proofs.lemmas.Bool.{or_left, or_right}
@@ -148,7 +148,8 @@ Walks p n g (k ∷ ks) h = (n ≤ length g.atoms) × (bs : List Binding) × (j :
 
 -- ---- one step
 
--- the first atoms of g are instances of the first atoms of k, by one substitution; r more atoms come after them in g, and q in k
+-- the first atoms of g are instances of the first atoms of k, by one substitution; r more atoms come after them in g,
+-- and q in k
 pub record Covers (r q : ℕ) (g k : Goal) : Type 0 where
   pub by : ℕ → Tree
   pub heads : List Atom

@@ -3,8 +3,8 @@
 --
 -- An answer is printed with its variables numbered by first occurrence, and not at all where it is too large.
 --
--- A search ends at a goal whose first atom is built in and has a value that does not fit, since the code's numbers do not
--- reach it.
+-- A search ends at a goal whose first atom is built in and has a value that does not fit, since the code's numbers do
+-- not reach it.
 --
 -- To believe: `reached`, `answer_of`, `visited`, `answers`; `numbered_atoms`, `is_large`.
 use Rattle.std.specs.Prelude.{ℕ, max, ◌+◌, Bool, false, ◌||◌, nat_lt, nat_eq, if◌then◌else◌, IsTrue, List, [], ◌∷◌, ◌++◌, map, drop, filter_map, Option, None, Some, option_map, option_and_then}

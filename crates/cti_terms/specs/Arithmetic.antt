@@ -1,9 +1,9 @@
 -- To believe, for a Yes.
 -- Values of terms, and what built-in predicates do.
 --
--- An integer is its own value, and `+`, `-` and `*` of terms with values have values. Other terms have none. Numbers are
--- whole numbers without bound. An atom of a built-in predicate succeeds where its evaluated arguments have values and
--- the comparison is true; for `is` the first argument has to unify with the value of the second.
+-- An integer is its own value, and `+`, `-` and `*` of terms with values have values. Other terms have none. Numbers
+-- are whole numbers without bound. An atom of a built-in predicate succeeds where its evaluated arguments have values
+-- and the comparison is true; for `is` the first argument has to unify with the value of the second.
 --
 -- An atom whose evaluated arguments have values is wide where a subterm of one of them has a value that does not fit.
 --

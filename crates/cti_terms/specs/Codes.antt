@@ -1,5 +1,6 @@
 -- Private.
--- How a proof distinguishes atoms, so that a contract may see a struct as a list of them. Nothing here has to be believed.
+-- How a proof distinguishes atoms, so that a contract may see a struct as a list of them. Nothing here has to be
+-- believed.
 use Rattle.std.specs.Prelude.{ℕ, List, refl}
 use Rattle.std.specs.Coded.{Coded, code_by, coded×, coded_ℕ, coded_list}
 use Rattle.cti_terms.specs.Tree.{Tree}

@@ -1,8 +1,8 @@
 -- To believe, for a Yes.
 -- Derivations, and goals whose derivations are bounded.
 --
--- A derivation is given by the numbers of its clauses, with 0 for a built-in atom, since each of them leaves one goal at
--- most.
+-- A derivation is given by the numbers of its clauses, with 0 for a built-in atom, since each of them leaves one goal
+-- at most.
 --
 -- To believe: `IsDerivation`, `Bounded`. All that is promised of a query is that it is `Bounded`.
 -- Source: LD-derivations, which select the leftmost atom.

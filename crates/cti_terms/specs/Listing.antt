@@ -1,8 +1,8 @@
 -- To believe, for a Yes.
 -- A program: its predicates, numbered from 0, its clauses, numbered from 1, in order, and its built-in predicates.
 --
--- To believe: `Listing`, `is_pred`, `with_pred`, and what every program keeps, `IsProgram`. `Arithmetic.antt` says what is built in.
--- The limits are those of `src/limits.rt`.
+-- To believe: `Listing`, `is_pred`, `with_pred`, and what every program keeps, `IsProgram`. `Arithmetic.antt` says what
+-- is built in. The limits are those of `src/limits.rt`.
 use Rattle.std.specs.Prelude.{◌≡◌, ◌≢◌, ℕ, zero, suc, ◌+◌, ◌≤◌, ◌<◌, ◌^◌, Bool, ◌&&◌, ◌==◌, IsTrue, List, [], ◌∷◌, ◌++◌, if◌then◌else◌, length, sum_by, slice_get, Option, None, Some, IsSomeAnd}
 use Rattle.std.specs.List.{AllByRecursion, AllPairs, list_any}
 use Rattle.cti_terms.specs.Arithmetic.{Arithmetic, kind_of}

@@ -1,5 +1,6 @@
 -- Private.
--- How a proof distinguishes programs, so that a contract may see a program as its two lists. Nothing here has to be believed.
+-- How a proof distinguishes programs, so that a contract may see a program as its two lists. Nothing here has to be
+-- believed.
 use Rattle.std.specs.Prelude.{◌≡◌, ℕ, zero, suc, List, Option, refl}
 use Rattle.std.specs.Coded.{Coded, code_by, coded×, coded_ℕ, coded_list, coded_option}
 use Rattle.cti_terms.specs.Codes.{coded_atom}

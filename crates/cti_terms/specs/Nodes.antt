@@ -1,9 +1,10 @@
 -- To believe, for the command.
 -- The nodes of a goal: its derivations but the empty one, in the order in which a search meets them.
 --
--- A derivation is given by the numbers of its clauses, with 0 for a built-in atom. Lists of numbers stand in lexicographic order, a beginning
--- before what it begins. A goal may have nodes without end, so they are listed to a depth. Each node stands after
--- all of its beginnings, so the first n nodes have at most n clauses each, and one more has at most n + 1.
+-- A derivation is given by the numbers of its clauses, with 0 for a built-in atom. Lists of numbers stand in
+-- lexicographic order, a beginning before what it begins. A goal may have nodes without end, so they are listed to a
+-- depth. Each node stands after all of its beginnings, so the first n nodes have at most n clauses each, and one more
+-- has at most n + 1.
 --
 -- To believe: `nodes`, `first_nodes`, `HasMoreNodes`, `longest`.
 -- Source: the search tree of LD-resolution, depth first, with clauses in the order of the program.

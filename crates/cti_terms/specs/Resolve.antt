@@ -56,7 +56,8 @@ abbrev pub resolve_itself : Arithmetic → List Atom → ℕ → Option (List Bi
 resolve_itself ar [] n = None
 resolve_itself ar (a ∷ rest) n = option_map (passed rest n) (passes ar a)
 
--- the unifier and the goal that is left, if the clause of this number resolves a goal; number 0 stands for the built-in atom at its front
+-- the unifier and the goal that is left, if the clause of this number resolves a goal; number 0 stands for the built-in
+-- atom at its front
 abbrev pub resolve : Listing → Goal → ℕ → Option (List Binding × Goal)
 resolve p g zero = resolve_itself p.arithmetic g.atoms g.fresh
 resolve p g (suc i) = option_and_then (resolve_by g.atoms g.fresh) (slice_get p.clauses i)

@@ -5,8 +5,8 @@
 -- two numbers down: how many variables occur, and how many nodes are there until the next binding.
 --
 -- It takes the first step of the first equation, again and again, until no equation is left; the two numbers only make
--- the recursion end. `unification_is_a_function` of `src/laws.rt` proves that neither runs out before, and that what is computed is
--- what the relation `Unifies` says, which a reader of the modes need not know.
+-- the recursion end. `unification_is_a_function` of `src/laws.rt` proves that neither runs out before, and that what is
+-- computed is what the relation `Unifies` says, which a reader of the modes need not know.
 use Rattle.std.specs.Prelude.{ℕ, zero, suc, max, ◌+◌, Bool, false, ◌||◌, cond, List, [], ◌∷◌, ◌++◌, Option, None, Some, option_map}
 use Rattle.cti_terms.specs.Tree.{Tree, Trees, Variable, Integer, Compound, End, More, nodes_of}
 use Rattle.cti_terms.specs.Unify.{Equation, Binding, Step, Dropped, Bound, Split, Failed, first_step, replaced, occurs}

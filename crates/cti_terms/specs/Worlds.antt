@@ -3,8 +3,8 @@
 -- Derivations of a program that calls open predicates: it has no clauses of them, and a world answers their atoms.
 --
 -- A world gives finitely many answers to each atom. They may depend on the whole derivation so far, as input and output
--- do, and on the goal's counter, from which an answer's new variables are counted. An answer is a list of bindings,
--- and a counter for what comes after it. Each finite substitution is such a list, since bindings are made in turn and may
+-- do, and on the goal's counter, from which an answer's new variables are counted. An answer is a list of bindings, and
+-- a counter for what comes after it. Each finite substitution is such a list, since bindings are made in turn and may
 -- go over new variables.
 --
 -- A derivation is given by numbers, as one of clauses is. Where a goal begins with an open atom, the number is that of

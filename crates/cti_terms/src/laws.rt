@@ -54,8 +54,8 @@ pub fn builtins_are_resolved_by_zero_alone()
         → resolve p (record { atoms = a ∷ rest; fresh = n }) (suc i) ≡ None }
 {}
 
-/// A goal that nothing resolves is bounded: one without atoms, and one whose first atom's predicate has no clause and is
-/// not built in.
+/// A goal that nothing resolves is bounded: one without atoms, and one whose first atom's predicate has no clause and
+/// is not built in.
 pub fn finished_goals_are_bounded()
     ensures no_atoms { (p : Listing) (n : ℕ) → Bounded p (record { atoms = []; fresh = n }) }
     ensures no_clause { (p : Listing) (a : Atom) (rest : List Atom) (n : ℕ)
@@ -71,8 +71,8 @@ pub fn facts_are_bounded()
 
 /// A derivation by clauses from an atom lifts to each more general atom, and what it leaves there is more general too.
 ///
-/// The atoms' counters may be any, but that of the more general one is above its variables. A step by a built-in atom does
-/// not lift, since a more general atom may have no value.
+/// The atoms' counters may be any, but that of the more general one is above its variables. A step by a built-in atom
+/// does not lift, since a more general atom may have no value.
 pub fn derivations_lift()
     ensures { (p : Listing) (a b : Atom) (n m : ℕ) (ks : List ℕ) (h : Goal) → IsProgram p
         → AllByRecursion (λ (i : ℕ). 1 ≤ i) ks

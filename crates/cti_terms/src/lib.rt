@@ -1,8 +1,7 @@
 //! Logic programs: names, terms, clauses and programs, and what it means to run them.
 //!
-//! The code keeps names and programs. The definitions in `specs/` say what a program does: unification with
-//! the occurs check, left-to-right resolution with integer tests and `is`, derivations, and when a goal's derivations are
-//! bounded.
+//! The code keeps names and programs. The definitions in `specs/` say what a program does: unification with the occurs
+//! check, left-to-right resolution with integer tests and `is`, derivations, and when a goal's derivations are bounded.
 //! They speak of plain trees, which contracts see wherever the code holds terms.
 //!
 //! Depends on `indexmap`, which numbers names and predicates in the order of their first use.

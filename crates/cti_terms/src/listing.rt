@@ -14,8 +14,8 @@ use indexmap::IndexSet;
 use std::alloc::{AllocError, Global};
 use std::marker::Model;
 
-/// A program: a list of predicates and a list of clauses, with the built-in ones among the predicates. Contracts see the
-/// lists.
+/// A program: a list of predicates and a list of clauses, with the built-in ones among the predicates. Contracts see
+/// the lists.
 pub struct Program {
     preds: IndexSet<Pred>,
     clauses: Vec<Clause>,

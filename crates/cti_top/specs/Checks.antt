@@ -5,8 +5,8 @@
 -- not, the line and the reason are those of its first fault.
 --
 -- To believe: all of this file, over the program of a text, `IsTextOf` and `IsFirstWrong` of certificate, and
--- `ModesAreBounded` of cert_checker; `IsValid`, `RefutedHaveNoMapping` and `IsFault` of cert_checker only where a Yes is
--- to mean more than that queries end, and a No what is wrong.
+-- `ModesAreBounded` of cert_checker; `IsValid`, `RefutedHaveNoMapping` and `IsFault` of cert_checker only where a Yes
+-- is to mean more than that queries end, and a No what is wrong.
 use Rattle.std.specs.Prelude.{◌≡◌, ◌≤◌, ℕ, List, length}
 use Rattle.certificate.specs.declared.certificate.Certificate.{Certificate}
 use Rattle.certificate.specs.declared.fact.Fact.{Fact}

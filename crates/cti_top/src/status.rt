@@ -22,8 +22,8 @@ pub enum Status {
     OutFault,
     /// Memory ran out, or a limit that counts as that was met; nothing was written.
     Memory,
-    /// The query has more nodes than were looked at: the answers among those were written, or the line that says that no
-    /// loop is among the first ones.
+    /// The query has more nodes than were looked at: the answers among those were written, or the line that says that
+    /// no loop is among the first ones.
     Stopped,
     /// A value in an integer test was too large, where the search ended; the answers before it were written. It comes
     /// only where a program or a query has integer tests.

@@ -22,8 +22,8 @@ abbrev pub IsMany : Bool → Option Bool → Type 0
 IsMany false fault = fault ≡ Some false
 IsMany true fault = (wide : Bool) × (fault ≡ Some wide)
 
--- what a step answers: the rows that it leaves, or exactly its fault, but for what a brief one does not say; running out of memory
--- is free
+-- what a step answers: the rows that it leaves, or exactly its fault, but for what a brief one does not say; running
+-- out of memory is free
 abbrev pub StepSays : Bool → ℕ → ℕ → List (List ℤ) → Result (List (List ℤ)) StepFault → Type 0
 StepSays brief m k rows (Ok left) = (left ≡ eliminated m k rows) × (step_fault m k rows ≡ None)
 StepSays brief m k rows (Err Wide) = step_fault m k rows ≡ Some true

@@ -17,7 +17,8 @@ use std::alloc::{AllocError, Global};
 
 /// The kept rows with the combinations of each row that rises in the column and each that falls there.
 ///
-/// It stops where the kept rows are too many, since then no more are kept, if it is brief or no number can be too large.
+/// It stops where the kept rows are too many, since then no more are kept, if it is brief or no number can be too
+/// large.
 pub fn cross_rising(
     alloc: Global,
     kept: &mut Lines,

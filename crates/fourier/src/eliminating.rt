@@ -15,8 +15,8 @@ use std::alloc::Global;
 
 /// Eliminates a variable: the rows left have the width of `rows`, and 0 in the column of `var`.
 ///
-/// Variables count from 0, and the constant is not a variable. Blown says which step, of which 0 is the rows' own numbers
-/// and 1 the elimination, and `wide` whether a number does not fit there; else more than 4,096 rows are left.
+/// Variables count from 0, and the constant is not a variable. Blown says which step, of which 0 is the rows' own
+/// numbers and 1 the elimination, and `wide` whether a number does not fit there; else more than 4,096 rows are left.
 ///
 /// Source: Fourier-Motzkin elimination, as in Schrijver 1986. Which rows are combined, divided and dropped, and in
 /// what order, is defined in linear_rows.

@@ -14,8 +14,8 @@ use std::alloc::Global;
 
 /// Eliminates the given number of variables from this one on, in order: the rows left have the width of `rows`.
 ///
-/// Blown says which step, of which 0 is the rows' own numbers, and `wide` whether a number does not fit there; else more
-/// than 4,096 rows are left.
+/// Blown says which step, of which 0 is the rows' own numbers, and `wide` whether a number does not fit there; else
+/// more than 4,096 rows are left.
 pub fn eliminate_all(alloc: Global, rows: &Rows, from: u32, count: u32) -> Result<Rows, ElimFault>
     requires columns { from + count ≤ rows.now.width }
     requires width { HaveWidth rows.now.width rows.now.list }

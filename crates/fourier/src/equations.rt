@@ -30,7 +30,8 @@ pub fn equation(rows: &Lines, k: usize, many: usize) -> Option<(usize, usize)>
     None
 }
 
-/// The kept rows with the other rows in which the variable stands, each crossed with the equation at the places `i` and `j`.
+/// The kept rows with the other rows in which the variable stands, each crossed with the equation at the places `i` and
+/// `j`.
 pub fn cross_equation(
     alloc: Global,
     kept: &mut Lines,

@@ -13,7 +13,8 @@ use Rattle.prolog_tokens.specs.Bytes.{is_graphic}
 use Rattle.generated_text.proofs.Signs.{Sign, name, letter, neck, paren, paren_end, list, list_end, comma, bar, stop, Entry, at_once, spaced, end_signs, AreFew}
 use Rattle.generated_text.proofs.Seen.{shown}
 
--- a clause: the two that append by predicate k, the two that reverse by k with a call of j, and the one that calls j twice
+-- a clause: the two that append by predicate k, the two that reverse by k with a call of j, and the one that calls j
+-- twice
 pub data Shape : Type 0 where
   append_none : ℕ → Shape
   append_more : ℕ → Shape

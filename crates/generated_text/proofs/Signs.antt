@@ -24,7 +24,8 @@ use Rattle.prolog_tokens.specs.declared.fault.LexFault.{LexFault}
 use Rattle.prolog_tokens.proofs.RunLemmas.{begins, prefix_len-Each}
 use Rattle.prolog_tokens.proofs.NextLemmas.{no_space_at, next_behind}
 
--- a token of a generated clause: the name of a predicate by its number, a variable of one capital letter, `:-`, a mark, or the end
+-- a token of a generated clause: the name of a predicate by its number, a variable of one capital letter, `:-`, a mark,
+-- or the end
 pub data Sign : Type 0 where
   name : ℕ → Sign
   letter : ℕ → Sign

@@ -1,5 +1,5 @@
--- The least family of `app([],L,L).` and `app([H|T],L,[H|R]) :- app(T,L,R).`: the third argument of a success is rigid exactly
--- where the first two are.
+-- The least family of `app([],L,L).` and `app([H|T],L,[H|R]) :- app(T,L,R).`: the third argument of a success is rigid
+-- exactly where the first two are.
 use Rattle.std.proofs.Common.{◌↔◌, ◌==◌, ◌∙◌, sym, ap, length, slice_get, Some, ◌≡◌, ℕ, zero, suc, Bool, true, false, ◌&&◌, IsTrue, List, [], ◌∷◌, refl}
 use Rattle.cti_terms.specs.Tree.{Tree, Variable, Compound, End, More, truth}
 use Rattle.cti_terms.specs.Arithmetic.{no_arithmetic}

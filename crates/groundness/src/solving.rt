@@ -79,10 +79,11 @@ fn solve_all<N: Norm>(
     Ok(())
 }
 
-/// Puts into the places of a component's members their sets: the least ones above those of the predicates that they call.
+/// Puts into the places of a component's members their sets: the least ones above those of the predicates that they
+/// call.
 ///
-/// What the places of members hold before does not matter, nor do the marks there are. The sets of other predicates stay
-/// as they are, diagram for diagram. Out of memory, the table keeps its earlier diagrams.
+/// What the places of members hold before does not matter, nor do the marks there are. The sets of other predicates
+/// stay as they are, diagram for diagram. Out of memory, the table keeps its earlier diagrams.
 pub fn solve_component<N: Norm>(
     setting: &Setting<N>,
     c: u32,
@@ -174,10 +175,12 @@ fn first_set(kind: Option<Builtin>, none: Diagram, both: Diagram) -> Diagram
     }
 }
 
-/// Adds rows to the sets of a component's members until they are closed under its clauses. Those of other predicates stay.
+/// Adds rows to the sets of a component's members until they are closed under its clauses. Those of other predicates
+/// stay.
 ///
-/// It begins with a mark for each of the component's clauses. It takes a mark away and adds what the clause gives; where that
-/// is a new row, the clauses that have the head's predicate in their bodies get marks. It ends without marks.
+/// It begins with a mark for each of the component's clauses. It takes a mark away and adds what the clause gives;
+/// where that is a new row, the clauses that have the head's predicate in their bodies get marks. It ends without
+/// marks.
 fn add_all<N: Norm>(
     setting: &Setting<N>,
     c: u32,
@@ -207,8 +210,8 @@ fn add_all<N: Norm>(
     Ok(())
 }
 
-/// Takes the next mark away, adds what its clause gives, if it is one of the component's, and marks the clauses that ask for it.
-/// It answers whether there was a mark.
+/// Takes the next mark away, adds what its clause gives, if it is one of the component's, and marks the clauses that
+/// ask for it. It answers whether there was a mark.
 fn add_next<N: Norm>(
     setting: &Setting<N>,
     c: u32,

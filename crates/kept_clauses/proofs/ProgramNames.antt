@@ -1,4 +1,5 @@
--- The clauses of the program of definite clauses by the names of their predicates: each depends on its clause of the list alone.
+-- The clauses of the program of definite clauses by the names of their predicates: each depends on its clause of the
+-- list alone.
 use Rattle.std.proofs.Common.{◌≡◌, ◌≢◌, ℕ, zero, suc, ◌+◌, ◌<◌, ◌||◌, ◌==◌, ◌⊎◌, inl, inr, Bool, true, false, if◌then◌else◌, List, [], ◌∷◌, ◌++◌, map, length, position, get_or, slice_get, Option, None, Some, refl, ap, sym, ◌∙◌, subst, arith, append-nil, append_assoc, length-append, eqb-true}
 use Rattle.std.specs.Prelude.{codes, option_map, slice_index_or, nat_lt}
 use Rattle.std.specs.List.{AllByRecursion, AllPairs, list_any, position_or_len}

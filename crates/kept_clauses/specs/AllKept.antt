@@ -40,7 +40,8 @@ NoneIsNew new set kept = (i : ℕ) (y : Clause) → slice_get new.clauses i ≡ 
 abbrev pub NoneIsLost : Listing → (Pred → Bool) → List (Option ℕ) → Type 0
 NoneIsLost p set kept = (j : ℕ) (x : Clause) → slice_get p.clauses j ≡ Some x → is_in set (slice_get p.preds x.head.pred.0) ≡ true → (i : ℕ) × (slice_get kept i ≡ Some (Some (suc j)))
 
--- Where none is new, none is lost, and the other way round: the clauses of an untouched set are as many in both programs.
+-- Where none is new, none is lost, and the other way round: the clauses of an untouched set are as many in both
+-- programs.
 abbrev pub UntouchedAreKept : Type 0
 UntouchedAreKept = (p new : Listing) (set : Pred → Bool) (kept : List (Option ℕ)) → AreKept p new kept → IsIncreasing kept → AreUntouched p new set
     → NoneIsNew new set kept ⊎ NoneIsLost p set kept → AllKept p new set kept
@@ -50,7 +51,8 @@ abbrev pub OneEditKeepsUntouched : Type 0
 OneEditKeepsUntouched = (p new : Listing) (set : Pred → Bool) (kept : List (Option ℕ)) → AreKept p new kept → IsIncreasing kept → AreUntouched p new set
     → IsTotal kept ⊎ IsOnto (length p.clauses) kept → AllKept p new set kept
 
--- So it is with the programs of two lists of definite clauses, where clauses were only put into the list, or only taken out.
+-- So it is with the programs of two lists of definite clauses, where clauses were only put into the list, or only taken
+-- out.
 abbrev pub ListEditKeepsUntouched : Type 0
 ListEditKeepsUntouched = (names : List (List ℕ)) (cs ds : List TextClause) (n : ℕ) (kept ks : List (Option ℕ)) (p new : Listing) (set : Pred → Bool)
     → IsListEdit names cs ds n kept p new → ks ≡ kept_of_program p new n kept → IsIncreasing kept → AreUntouched p new set

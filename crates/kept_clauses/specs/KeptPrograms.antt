@@ -1,8 +1,8 @@
 -- Private.
 -- Which clauses of the program of a list of definite clauses are those of the program of another list.
 --
--- Each clause of a list is one of its program, in order, and one more may follow, that of =/2. So what is kept of a program is what is
--- kept of the list, and then the clause of =/2, where both have it.
+-- Each clause of a list is one of its program, in order, and one more may follow, that of =/2. So what is kept of a
+-- program is what is kept of the list, and then the clause of =/2, where both have it.
 use Rattle.std.specs.Prelude.{◌≡◌, ◌≢◌, ℕ, nat_lt, List, [], ◌∷◌, ◌++◌, length, Option, None, Some, if◌then◌else◌}
 use Rattle.std.specs.List.{AllPairs}
 use Rattle.cti_terms.specs.Listing.{Listing}
@@ -10,7 +10,8 @@ use Rattle.prolog_terms.specs.Clauses.{Clause as TextClause}
 use Rattle.clause_normal.specs.Definite.{AreDefinite, program_of}
 use Rattle.kept_clauses.specs.KeptLists.{AreKeptList}
 
--- two lists of definite clauses with their programs under the same names, and what is kept of the first list, which has n clauses
+-- two lists of definite clauses with their programs under the same names, and what is kept of the first list, which has
+-- n clauses
 pub record IsListEdit (names : List (List ℕ)) (cs ds : List TextClause) (n : ℕ) (kept : List (Option ℕ)) (p new : Listing) : Type 0 where
   pub distinct : AllPairs (λ (a b : List ℕ). a ≢ b) names
   pub definite_before : AreDefinite names cs

@@ -21,8 +21,8 @@ pub fn all_kept(alloc: Global, count: usize) -> Result<Vec<Option<u32>>, AllocEr
     Ok(kept)
 }
 
-/// What is kept of a list of `count` clauses where one is put in after the first `at`: for each clause of the new list its
-/// number before, from 1 on, and none for the new one.
+/// What is kept of a list of `count` clauses where one is put in after the first `at`: for each clause of the new list
+/// its number before, from 1 on, and none for the new one.
 pub fn kept_with(alloc: Global, count: usize, at: usize) -> Result<Vec<Option<u32>>, AllocError>
     requires few { count < 2 ^ 32 }
     requires within { at ≤ count }
@@ -41,8 +41,8 @@ pub fn kept_with(alloc: Global, count: usize, at: usize) -> Result<Vec<Option<u3
     Ok(kept)
 }
 
-/// What is kept of a list of `count` clauses where the one after the first `at` is taken out: for each clause of the new
-/// list its number before, from 1 on.
+/// What is kept of a list of `count` clauses where the one after the first `at` is taken out: for each clause of the
+/// new list its number before, from 1 on.
 pub fn kept_without(alloc: Global, count: usize, at: usize) -> Result<Vec<Option<u32>>, AllocError>
     requires few { count < 2 ^ 32 }
     requires within { at < count }

@@ -45,8 +45,8 @@ fn with_equality(
 /// For each clause of a program of definite clauses the number, from 1 on, of the same clause in the program of another
 /// list, if it was kept.
 ///
-/// `kept` says this of the clauses of the two lists, and the earlier list has `clauses_before` of them. The clause of `=`/2 is kept where
-/// both programs have it.
+/// `kept` says this of the clauses of the two lists, and the earlier list has `clauses_before` of them. The clause of
+/// `=`/2 is kept where both programs have it.
 pub fn kept_clauses(
     alloc: Global,
     before: &Program,

@@ -18,8 +18,8 @@ pub fn list_edit_keeps_untouched()
     ensures { ListEditKeepsUntouched }
 {}
 
-/// Where all clauses of untouched predicates are kept, and components that stand and predicates without clauses keep what
-/// was found of them, nothing of what was found of untouched predicates changes.
+/// Where all clauses of untouched predicates are kept, and components that stand and predicates without clauses keep
+/// what was found of them, nothing of what was found of untouched predicates changes.
 pub fn untouched_have_stayed<X>()
     ensures { UntouchedHaveStayed X }
 {}

@@ -27,7 +27,8 @@ abbrev pub IsInteger : Option Tree → Type 0
 IsInteger None = Unit {0}
 IsInteger (Some v) = (n : ℤ) × (v ≡ Integer n)
 
--- what was found agrees with whether a value does not fit, and with the bindings by which the atom succeeds at these arguments
+-- what was found agrees with whether a value does not fit, and with the bindings by which the atom succeeds at these
+-- arguments
 abbrev pub Agrees : Bool → Option (List Binding) → List Tree → FirstAtom → Type 0
 Agrees wide o ts Ordinary = ⊥
 Agrees wide o ts Fails = (wide ≡ false) × (o ≡ None)

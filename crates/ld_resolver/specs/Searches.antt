@@ -141,7 +141,8 @@ IsAttempt old Ended new = choices_of old ≡ []
 IsAttempt old Failed new = ((q : List Atom) (n : ℕ) → left_of q n old ≡ left_of q n new) × (attempts_left new < attempts_left old)
 IsAttempt old (Resolved node) new = IsNode old node new
 
--- a goal is entered: it has no atoms; or it is left to be walked; or its first atom is wide, and the search is of no use any more
+-- a goal is entered: it has no atoms; or it is left to be walked; or its first atom is wide, and the search is of no
+-- use any more
 abbrev pub IsEntered : Search → ℕ → Goal → Entered → Search → Type 0
 IsEntered old l h Empty new = (h.atoms ≡ []) × ((q : List Atom) (n : ℕ) → left_of q n old ≡ left_of q n new)
 IsEntered old l h Open new = ((q : List Atom) (bs : List Binding) → answer_by q bs h.atoms ≡ None)

@@ -87,7 +87,8 @@ fn assigned<'p>(calculator: &Calculator<'p>, right: Value) -> Result<FirstAtom<'
     }
 }
 
-/// What a built-in predicate of this kind does at raised arguments. It is rare, so that it is not compiled into `judge`.
+/// What a built-in predicate of this kind does at raised arguments. It is rare, so that it is not compiled into
+/// `judge`.
 #[inline(never)]
 fn judge_as<'p>(
     calculator: &mut Calculator<'p>,
@@ -113,7 +114,8 @@ fn judge_as<'p>(
     }
 }
 
-/// What a raised atom does by itself. It is compiled into the loop of a run: most atoms are of predicates of the program.
+/// What a raised atom does by itself. It is compiled into the loop of a run: most atoms are of predicates of the
+/// program.
 #[inline(always)]
 pub fn judge<'p>(
     calculator: &mut Calculator<'p>,

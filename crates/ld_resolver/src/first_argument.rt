@@ -23,8 +23,8 @@ fn compounds_differ(f: Name, args: &[Term], g: Name, count: usize) -> bool
     true
 }
 
-/// Whether a clause whose first argument has this kind cannot match a goal with a first argument of that kind. A variable
-/// rules nothing out.
+/// Whether a clause whose first argument has this kind cannot match a goal with a first argument of that kind. A
+/// variable rules nothing out.
 #[inline(always)]
 fn is_ruled_out(shape: Shape<'_>, kind: FirstKind) -> bool
     ensures { IsTrue result → RulesOut shape.entry kind }
@@ -62,8 +62,8 @@ fn first_shape<'p>(bindings: &Bindings<'p>, atom: &'p Atom, base: u32) -> Option
     Some(bindings.met(RaisedTerm { term, base }).shape)
 }
 
-/// The number of the first clause, from this one of the atom's predicate on, whose first argument can match the atom's. One
-/// past the last clause stands for none. It ends at once after a last clause, so it is compiled into its callers.
+/// The number of the first clause, from this one of the atom's predicate on, whose first argument can match the atom's.
+/// One past the last clause stands for none. It ends at once after a last clause, so it is compiled into its callers.
 #[inline(always)]
 pub fn next_match<'p>(
     program: &Program,

@@ -26,7 +26,8 @@ pub fn bounded_goals_have_finitely_many_nodes()
     ensures finite { (p : Listing) (g : Goal) → Bounded p g → (n : ℕ) × HasNodes p g n }
 {}
 
-/// A run is finished exactly where its budget is at least the number of the goal's nodes, and then it has looked at all of them.
+/// A run is finished exactly where its budget is at least the number of the goal's nodes, and then it has looked at all
+/// of them.
 pub fn a_budget_of_all_nodes_finishes()
     ensures finished { (p : Listing) (g : Goal) (n : ℕ) → HasNodes p g n → (budget : ℕ) → n ≤ budget
         → ¬ HasMoreNodes p g budget }
@@ -38,8 +39,8 @@ pub fn a_budget_of_all_nodes_finishes()
         → HasNodes p g (length (first_nodes p g budget)) }
 {}
 
-/// The first n nodes are derivations but the empty one, in lexicographic order, and every other such derivation comes after all of them,
-/// however long it is. There are more exactly where there is another one.
+/// The first n nodes are derivations but the empty one, in lexicographic order, and every other such derivation comes
+/// after all of them, however long it is. There are more exactly where there is another one.
 pub fn first_nodes_come_first()
     ensures each { (p : Listing) (g : Goal) (n : ℕ) (ks : List ℕ) → IsIn ks (first_nodes p g n)
         → (ks ≢ []) × IsDerivation p g ks }

@@ -182,8 +182,8 @@ fn advance<'p>(
 }
 
 impl<'p> Running<'p> {
-    /// The run of a goal that has given no answer yet: it will look at the empty derivation and at the first `budget` others.
-    /// What it binds lies in the arena.
+    /// The run of a goal that has given no answer yet: it will look at the empty derivation and at the first `budget`
+    /// others. What it binds lies in the arena.
     pub fn new(
         alloc: Global,
         program: &'p Program,
@@ -270,8 +270,8 @@ pub fn run(alloc: Global, program: &Program, goal: &Goal, budget: u64) -> Result
     ensures longest { IfOk result
         (λ ran. ran.longest ≡ longest (visited_nodes program.now goal.now budget)) }
 
-    // Where no value is too large, Stopped comes exactly where there are more nodes than the budget, and Finished exactly
-    // where there are not.
+    // Where no value is too large, Stopped comes exactly where there are more nodes than the budget, and Finished
+    // exactly where there are not.
     ensures stopped { IfOk result (λ ran. (ran.ending ≡ Ending.Stopped)
         ↔ ((¬ HasWide program.now goal.now budget)
         × HasMoreNodes program.now goal.now budget)) }

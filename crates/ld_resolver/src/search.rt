@@ -34,8 +34,8 @@ pub enum Taken<'p> {
     Clause(Choice<'p>, &'p Clause),
 }
 
-/// A node that was found at a choice and is not entered yet: the body of the clause, and what it takes from the choice. A
-/// built-in atom has no clause: its body is empty.
+/// A node that was found at a choice and is not entered yet: the body of the clause, and what it takes from the choice.
+/// A built-in atom has no clause: its body is empty.
 #[derive(Clone, Copy, Drop)]
 pub struct Node<'p> {
     pub body: &'p [Atom],
@@ -57,8 +57,8 @@ pub enum Attempt<'p> {
     Resolved(Node<'p>),
 }
 
-/// How a goal was entered: it has no atoms; its first atom is still to be resolved; or that atom is built in, and a value
-/// does not fit.
+/// How a goal was entered: it has no atoms; its first atom is still to be resolved; or that atom is built in, and a
+/// value does not fit.
 #[derive(Clone, Copy, Drop)]
 pub enum Entered {
     Empty,
@@ -205,8 +205,8 @@ impl<'p> Search<'p> {
         }
     }
 
-    /// Adds a choice at a goal of this start, counter and depth where its first atom has to be resolved: with the first clause
-    /// that can match, or by itself where it is built in and can succeed. It is compiled into the loop of a run.
+    /// Adds a choice at a goal of this start, counter and depth where its first atom has to be resolved: with the first
+    /// clause that can match, or by itself where it is built in and can succeed. It is compiled into the loop of a run.
     #[inline(always)]
     fn add(
         &mut self,

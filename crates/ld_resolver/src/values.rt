@@ -18,8 +18,8 @@ use unifier::bindings::Bindings;
 use unifier::occurs_check::push_arguments;
 use unifier::raised_term::{RaisedTerm, Shape};
 
-/// The most operators and numbers of an expression that is evaluated, which take 128 MB. Variables may share subterms, so
-/// that a short text stands for any number of them. With more, it is out of memory.
+/// The most operators and numbers of an expression that is evaluated, which take 128 MB. Variables may share subterms,
+/// so that a short text stands for any number of them. With more, it is out of memory.
 const MOST_OPERATORS: usize = 4_000_000;
 
 /// The value of a term: it has none, or it or a subterm has one that does not fit, or it is a number.

@@ -118,7 +118,8 @@ module _ (size : (ℕ → ℕ) → Tree → ℕ) (truth : (ℕ → Bool) → Tre
   abbrev pub Fit : List Recalled → List ℤ → Type 0
   Fit os list = FallsFit expression (component_view expression p comps rows c) (arity_in p) l os list
 
-  -- the falls of calls that can be reached are shown by their multipliers, those of others by what shows their rows empty
+  -- the falls of calls that can be reached are shown by their multipliers, those of others by what shows their rows
+  -- empty
   pub all_shown : (owns : List OwnCall) (vs : List ℕ) → AllByRecursion (IsHeld expression p rows) owns → AllByRecursion IsWideHead owns
       → Fit (map own (live_of owns)) (map pos vs) → AllByRecursion (λ (o : Recalled). row_fits (fall_at o) ≡ true) (map own owns) → AreFalls expression l (map own (live_of owns)) vs → ShowFalls ms owns (map pos vs)
   all_shown [] vs held wide fit targets falls = tt

@@ -1,5 +1,5 @@
--- Positions that each mapping needs: sets without one of them have none, and where a mapping needs all of its positions,
--- it is the only one with a minimal support.
+-- Positions that each mapping needs: sets without one of them have none, and where a mapping needs all of its
+-- positions, it is the only one with a minimal support.
 use Rattle.std.proofs.Common.{◌≡◌, ◌⊎◌, inl, inr, ℕ, suc, ℤ, Bool, true, false, List, [], ◌∷◌, length, refl, sym, subst, arith}
 use Rattle.std.specs.Prelude.{nat_eq}
 use Rattle.std.specs.List.{list_any}

@@ -2,8 +2,8 @@
 -- The walk over the sets of places, the smaller ones first, and what it leaves: each minimal set that is had, but for
 -- those above a set that was given up.
 --
--- Sets are ascending lists of numbers from 1 on, as modes are. `Has s` says that something is had with exactly this set.
--- Nothing here has to be believed.
+-- Sets are ascending lists of numbers from 1 on, as modes are. `Has s` says that something is had with exactly this
+-- set. Nothing here has to be believed.
 use Rattle.std.specs.Prelude.{◌≡◌, ℕ, suc, ◌⊎◌, true, List, [], ◌∷◌, ◌++◌, take, slice_get, Some}
 use Rattle.linear_rows.specs.Members.{In}
 use Rattle.termination_model.specs.grounds.Minimal.{FindsMinimal, IsAbove, IsExcluded, IsMinimal}

@@ -1,7 +1,7 @@
 //! Positions at which each decreasing mapping has a positive coefficient.
 //!
-//! Where a mapping has no other positions, its support is the only minimal one, and the sets of positions, of which there
-//! are 4,096 of twelve, need not be gone over.
+//! Where a mapping has no other positions, its support is the only minimal one, and the sets of positions, of which
+//! there are 4,096 of twelve, need not be gone over.
 
 ghost use Rattle.std.specs.Prelude.{◌<◌, ◌^◌, IfOk, IfSome, length};
 ghost use Rattle.level_systems.specs.Searched.{IsSound};

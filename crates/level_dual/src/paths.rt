@@ -46,8 +46,8 @@ impl Paths {
     }
 }
 
-/// Chains the calls of each predicate: `first` gets the first one that it makes, and `later` the next one after each call.
-/// The number of all calls stands for none.
+/// Chains the calls of each predicate: `first` gets the first one that it makes, and `later` the next one after each
+/// call. The number of all calls stands for none.
 fn chain_calls(calls: &[OwnCall], first: &mut Vec<usize>, later: &mut Vec<usize>) {
     for after in 0..calls.len() {
         let number = calls.len() - 1 - after;

@@ -1,7 +1,7 @@
 //! Rays of the size rows before a call: directions in which its variables can grow for ever while the rows hold.
 //!
-//! A ray begins with one variable. Where a row falls along it, another variable is added that raises the row. What comes
-//! of this is tested where it is used.
+//! A ray begins with one variable. Where a row falls along it, another variable is added that raises the row. What
+//! comes of this is tested where it is used.
 
 use exact128::{minus, plus};
 use level_systems::OwnCall;
@@ -56,8 +56,8 @@ fn mend(rows: &Rows, ray: &mut Vec<i128>) -> bool {
     false
 }
 
-/// Adds the first variable that raises a row so often that the row's value, which is below 0, no longer is. Says whether
-/// there is one.
+/// Adds the first variable that raises a row so often that the row's value, which is below 0, no longer is. Says
+/// whether there is one.
 fn raise(row: &Row, value: i128, ray: &mut Vec<i128>) -> bool {
     for variable in 0..row.coeffs.len() {
         let number = row.coeffs.entry(variable);

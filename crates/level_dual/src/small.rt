@@ -55,8 +55,8 @@ pub fn with_full(
     Ok(sets)
 }
 
-/// The mappings with minimal supports. Where the set of all positions was given up, and no mapping is found, it is among
-/// the sets that were given up.
+/// The mappings with minimal supports. Where the set of all positions was given up, and no mapping is found, it is
+/// among the sets that were given up.
 pub(crate) fn find_small(
     alloc: Global,
     p: &Program,

@@ -1,8 +1,8 @@
 //! Coefficients that are 0 in each decreasing mapping where others are 0.
 //!
-//! Along a ray the variables of a call grow for ever while the size rows before it hold, so there the head's level grows
-//! at least as fast as the call's. So along a ray on which no positive coefficient of the head grows, none of the call's
-//! does either. Marks say at which positions the coefficient is 0.
+//! Along a ray the variables of a call grow for ever while the size rows before it hold, so there the head's level
+//! grows at least as fast as the call's. So along a ray on which no positive coefficient of the head grows, none of the
+//! call's does either. Marks say at which positions the coefficient is 0.
 
 ghost use Rattle.std.specs.Prelude.{◌≡◌, ◌<◌, ◌≤ℤ◌, ◌^◌, ◌∷◌, ℕ, pos, IfOk, IfSome, None, Some, length, slice_get, true};
 ghost use Rattle.std.specs.List.{AllByRecursion};

@@ -102,7 +102,8 @@ module _ (expression : ℕ → Tree → List ℤ) (p : Listing) (comps : Partiti
     -- a refutation exactly where no mapping decreases and the set of all positions was not given up
     pub refuted : (f.refutation ≢ None) ↔ (((s : List ℕ) → HasSupportIn expression p comps rows c s → ⊥) × (In full f.blown → ⊥))
     pub shown : (r : Refutation) → f.refutation ≡ Some r → IsRefutationOf r
-    -- what was given up are sets of positions, which are blown and above no support that was found, and each stands once
+    -- what was given up are sets of positions, which are blown and above no support that was found, and each stands
+    -- once
     pub sets : (s : List ℕ) → In s f.blown → IsSet 1 (suc count) s
     pub given_up : (s : List ℕ) → In s f.blown → IsBlownSet s
     pub once : AreOnce f.blown

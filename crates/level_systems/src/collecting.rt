@@ -67,7 +67,8 @@ fn own_call<N: Norm>(
     }))
 }
 
-/// What the calls of a component are collected from: a program with its components, a norm, and sizes of its predicates.
+/// What the calls of a component are collected from: a program with its components, a norm, and sizes of its
+/// predicates.
 struct Setting<'a, N> {
     program: &'a Program,
     comps: &'a Components,

@@ -21,8 +21,8 @@ use cti_terms::PredId;
 use linear_rows::{Numbers, Row, Rows, number};
 use std::alloc::{AllocError, Global};
 
-/// The most numbers in the rows of a system, which take 512 MB in each of the tables that a search makes of them. A system
-/// with more is out of memory.
+/// The most numbers in the rows of a system, which take 512 MB in each of the tables that a search makes of them. A
+/// system with more is out of memory.
 const MOST_NUMBERS: usize = 1 << 25;
 
 /// Whether a system has room for so many more rows. Without room, it is out of memory.
@@ -144,7 +144,8 @@ pub(crate) fn less_one(x: usize) -> i128
     if x == 0 { -1 } else { 0 }
 }
 
-/// The numbers of the coefficients in the row of a call and a column, with the multipliers of other calls around its own.
+/// The numbers of the coefficients in the row of a call and a column, with the multipliers of other calls around its
+/// own.
 fn row_numbers(
     alloc: Global,
     own: &OwnCall,
@@ -257,7 +258,8 @@ pub(crate) fn width_of(positions: usize, members: usize, count: usize) -> Result
 }
 
 /// The system of a support: what coefficients at these positions, offsets of these members and multipliers have to obey
-/// so that the mapping falls at each call that can be reached. It is out of memory with more than `MOST_NUMBERS` numbers.
+/// so that the mapping falls at each call that can be reached. It is out of memory with more than `MOST_NUMBERS`
+/// numbers.
 pub fn support_system(
     alloc: Global,
     calls: &[OwnCall],

@@ -25,7 +25,8 @@ pub record AreLists (arity : ℕ) (lengths : List ℕ) (own : List (List LevelPa
   pub some : AllByRecursion (λ (n : ℕ). 1 ≤ n) lengths
   pub levels : AllByRecursion (AllByRecursion (IsLevel arity)) own
 
--- the lists that a call of a clause with a head of this predicate has to drop in: those of the component, if it is to that one
+-- the lists that a call of a clause with a head of this predicate has to drop in: those of the component, if it is to
+-- that one
 abbrev pub lists_of_call : Partition → List (List (List LevelPart)) → ℕ → Option Atom → List (List LevelPart)
 lists_of_call comps lists a call = if is_own_call comps a call then items_of lists a else []
 
@@ -56,7 +57,8 @@ pub record HaveShape (p : Listing) (comps : Partition) (parts : LexParts) : Type
       (λ k. AreEach (rows_of parts.rows (head_of p k)) (λ _. HaveMultipliers (rows_of_atoms parts.rows (body_of p k)))) parts.row_proofs
   pub grounds : AreEach (length p.preds) (λ a. AllByRecursion (HasWidth (arity_in p a))) parts.grounds
   pub lists : AreEach (length p.preds) (λ a. AreLists (arity_in p a) (lengths_of comps parts.lists a)) parts.lists
-  -- for a call to the own component, for each list, proofs up to the call's place, over the rows of the atoms before the call
+  -- for a call to the own component, for each list, proofs up to the call's place, over the rows of the atoms before
+  -- the call
   pub drops : AreEach (length p.clauses)
       (λ k. AreEach (length (body_of p k)) (λ j. ArePlaces (rows_of_atoms parts.rows (take j (body_of p k))) (lists_of_call comps parts.lists (head_of p k) (slice_get (body_of p k) j))))
       parts.drops

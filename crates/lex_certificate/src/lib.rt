@@ -2,8 +2,8 @@
 //!
 //! A certificate is a list of facts. `print` writes their lines, `parts_of` sorts them by predicates and clauses, and
 //! `facts_of` lists the facts of such parts. What parts a certificate has is `IsStructured` of `specs/Structure.antt`.
-//! `flat_levels` has one mapping for each list, positive where some measure of it is. Whether what a certificate claims is
-//! true is not asked here.
+//! `flat_levels` has one mapping for each list, positive where some measure of it is. Whether what a certificate claims
+//! is true is not asked here.
 #![tactic(auto)]
 
 mod drops;

@@ -24,15 +24,15 @@ pub struct LexParts {
     /// For each predicate and each list of its component, its parts in the list's measures.
     pub lists: Sequence<Sequence<Sequence<LevelPart>>>,
 
-    /// For each clause, each call of its body and each list, the multipliers for each measure up to the call's place, and
-    /// none where the call is to a lower component.
+    /// For each clause, each call of its body and each list, the multipliers for each measure up to the call's place,
+    /// and none where the call is to a lower component.
     pub drops: Sequence<Sequence<Sequence<Sequence<Multipliers>>>>,
 
     /// For each predicate and each list of its component, the cubes of the precondition.
     pub preconditions: Sequence<Sequence<Sequence<Cube>>>,
 
-    /// For each predicate the stuck set of the component that it is the first one of, where there is one. Its pairs have
-    /// no second points.
+    /// For each predicate the stuck set of the component that it is the first one of, where there is one. Its pairs
+    /// have no second points.
     pub stuck: Sequence<Option<Refutation>>,
 }
 

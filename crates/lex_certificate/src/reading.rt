@@ -152,8 +152,8 @@ fn whole(
     }
 }
 
-/// The parts of a certificate: what it claims of each predicate and clause of a program, and with which proofs. None where
-/// the facts are not those of parts that the program can have.
+/// The parts of a certificate: what it claims of each predicate and clause of a program, and with which proofs. None
+/// where the facts are not those of parts that the program can have.
 ///
 /// It takes time linear in the sizes of the certificate and of the program.
 pub fn parts_of(

@@ -1,6 +1,7 @@
 -- A certificate of lists is valid exactly where its only parts hold.
 --
--- That the facts have no other parts, and that these do not depend on the partition, are premises here, which the laws of
+-- That the facts have no other parts, and that these do not depend on the partition, are premises here, which the laws
+-- of
 -- `lex_certificate` give.
 use Rattle.std.proofs.Common.{◌≡◌, ◌≢◌, ◌↔◌, ℕ, false, IsTrue, List, sym, subst}
 use Rattle.std.specs.List.{AllPairs}

@@ -1,6 +1,6 @@
 -- Private.
--- What a certificate's stuck sets mean: no list of mappings of the component drops at each of its calls, for the printed
--- size rows.
+-- What a certificate's stuck sets mean: no list of mappings of the component drops at each of its calls, for the
+-- printed size rows.
 --
 -- To believe: all of this file.
 use Rattle.std.specs.Prelude.{◌≡◌, ℕ, zero, suc, ℤ, pos, negsuc, List, [], ◌∷◌, take, slice_get, Some}

@@ -3,7 +3,8 @@
 --
 -- At each call of its own component, and for each list, there are multipliers for the measures up to the call's place.
 -- Over the rows of the atoms before the call they show that the level of the head less that of the call is at least 0,
--- and at the place itself at least 1. Each number is to fit. Clauses, calls, lists and measures are counted from 0 here.
+-- and at the place itself at least 1. Each number is to fit. Clauses, calls, lists and measures are counted from 0
+-- here.
 --
 -- To believe: all of this file.
 use Rattle.std.specs.Prelude.{◌≡◌, ℕ, suc, ◌==◌, ℤ, false, List, length, take, slice_get, Some}

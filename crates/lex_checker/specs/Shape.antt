@@ -35,7 +35,8 @@ pub record HavePlace (rows n : ℕ) (ms : List Multipliers) : Type 0 where
   pub few : length ms ≤ n
   pub multipliers : AllByRecursion (AreMultipliers rows) ms
 
--- for each call of the own component and each list multipliers up to the call's place, over the rows of the atoms before
+-- for each call of the own component and each list multipliers up to the call's place, over the rows of the atoms
+-- before
 pub record HaveDrops (p : Listing) (comps : Partition) (parts : LexParts) : Type 0 where
   pub each : length parts.drops ≡ length p.clauses
   pub lists : (k j : ℕ) (c : Clause) (b : Atom) → slice_get p.clauses k ≡ Some c → slice_get c.body j ≡ Some b → AreTogether comps c.head.pred.0 b.pred.0

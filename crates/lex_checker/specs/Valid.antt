@@ -1,9 +1,9 @@
 -- To believe, for the modes by lists of mappings.
 -- When a certificate of lists is valid.
 --
--- Its facts are those of some parts, and what the parts claim holds: their modes, that built-in predicates have stated size
--- rows alone, and the numbers that prove size rows, lists and stuck sets. Sizes are term sizes. It does not matter how the
--- components are numbered.
+-- Its facts are those of some parts, and what the parts claim holds: their modes, that built-in predicates have stated
+-- size rows alone, and the numbers that prove size rows, lists and stuck sets. Sizes are term sizes. It does not matter
+-- how the components are numbered.
 --
 -- To believe: `IsValid`, over the definitions that it names. That queries end asks for none of this: see Bounding.antt.
 use Rattle.std.specs.Prelude.{ℕ, ℤ, Bool, List}

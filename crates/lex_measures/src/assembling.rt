@@ -143,8 +143,8 @@ fn with_levels(
     }
 }
 
-/// The parts with one mapping for each list, of the size rows, the lists and the stuck sets. The size rows are moved into
-/// them.
+/// The parts with one mapping for each list, of the size rows, the lists and the stuck sets. The size rows are moved
+/// into them.
 fn flat_of(
     alloc: Global,
     measured: &Measured,

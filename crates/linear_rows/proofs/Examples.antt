@@ -12,7 +12,8 @@ use Rattle.linear_rows.specs.Solving.{start_rows, bound, whole_values, point_fit
 use Rattle.linear_rows.specs.Solving.Solution.{Blown, Found, Refuted}
 use Rattle.linear_rows.specs.Systems.{test_rows, image_left, image_blown, join_left, join_blown}
 
--- x at least 2: a row that bounds from below and one that bounds from above give one without x; the row [0,0,1] has no x
+-- x at least 2: a row that bounds from below and one that bounds from above give one without x; the row [0,0,1] has no
+-- x
 one_step : eliminated 2 1 ((negsuc 1 ∷ pos 1 ∷ pos 0 ∷ []) ∷ (pos 7 ∷ negsuc 0 ∷ pos 1 ∷ []) ∷ (pos 0 ∷ pos 0 ∷ pos 1 ∷ []) ∷ []) ≡ ((pos 0 ∷ pos 0 ∷ pos 1 ∷ []) ∷ [])
 unfolding solution start_rows blown_step step_fits crossings_fit crossed_fits solved_rows_fit step_fault crossed crossings solved_rows row_gcd gcd gcd_within whole_values bound ratio lowest sum exceeds shared_of scaled_of sum_of again_of bottom_of point_fits dot
 one_step = refl

@@ -1,8 +1,8 @@
 -- A procedure, to believe for who is blown.
 -- Elimination by an equation: a row that stands among the rows with its negation.
 --
--- The first n numbers of rows are compared. Rows are distinguished by their places, since rows that are the same in these
--- numbers may carry other ones after them.
+-- The first n numbers of rows are compared. Rows are distinguished by their places, since rows that are the same in
+-- these numbers may carry other ones after them.
 use Rattle.std.specs.Prelude.{ℕ, zero, suc, ℤ, neg_ℤ, List, [], ◌∷◌, ◌++◌, Bool, true, ◌&&◌, ◌||◌, nat_eq, Option, Some, None, map, filter, if◌then◌else◌, slice_index_or}
 use Rattle.std.specs.List.{list_any}
 use Rattle.exact128.specs.Sums.{entry}

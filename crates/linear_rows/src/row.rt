@@ -19,7 +19,8 @@ impl Row {
     ghost use Rattle.linear_rows.specs.Plain.{plain_row};
     ghost use Rattle.linear_rows.specs.Showing.{bottom_row};
 
-    /// Makes the row of the given number of coefficients that holds nowhere: its constant is -1, and its coefficients are 0.
+    /// Makes the row of the given number of coefficients that holds nowhere: its constant is -1, and its coefficients
+    /// are 0.
     pub fn bottom(alloc: Global, width: u32) -> Result<Row, AllocError>
         ensures { IfOk result (λ r. plain_row r ≡ bottom_row width) }
     {
@@ -30,7 +31,8 @@ impl Row {
         })
     }
 
-    /// The value at `w` over `t`, times `t`, if `w` has as many numbers as there are coefficients and all that is formed fits.
+    /// The value at `w` over `t`, times `t`, if `w` has as many numbers as there are coefficients and all that is
+    /// formed fits.
     ///
     /// None says nothing of the value.
     pub fn value_at(&self, t: i128, w: &[i128]) -> Option<i128>

@@ -5,8 +5,8 @@ use std::alloc::AllocError;
 /// The most derivations that are looked at.
 pub const MOST_DERIVATIONS: u64 = 100_000;
 
-/// The most nodes of terms that one search copies and compares, which takes some seconds. A search that needs more is out
-/// of memory.
+/// The most nodes of terms that one search copies and compares, which takes some seconds. A search that needs more is
+/// out of memory.
 pub const MOST_WORK: u64 = 100_000_000;
 
 /// How often one search unifies heads at most, which takes half a minute. A search that needs more is out of memory.

@@ -1,4 +1,5 @@
-//! What a text shows about a mistake at a place of it: the usual mistakes of people who come from larger Prolog systems.
+//! What a text shows about a mistake at a place of it: the usual mistakes of people who come from larger Prolog
+//! systems.
 //!
 //! Each call answers nothing where the text does not surely show the mistake. Places are tokens of `prolog_tokens`,
 //! which are looked for by `token_search`, and the sentences are those of `mistake_sentences`. It depends on these

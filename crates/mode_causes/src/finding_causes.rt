@@ -188,8 +188,8 @@ impl<'p, 'f> View<'p, '_, 'f> {
         }
     }
 
-    /// A reason; but where no arguments are enough for the measures that were found, and others were not looked for, why
-    /// they were not.
+    /// A reason; but where no arguments are enough for the measures that were found, and others were not looked for,
+    /// why they were not.
     fn unless_given_up(self, component: u32, why: Why) -> Why {
         match (why, self.causes.limit_of(component)) {
             (Why::Unmet, Limit::Large(positions)) => Why::Large(positions),

@@ -15,8 +15,8 @@ pub struct Walk<'s, 'p, 'c, 'f> {
     arguments: u32,
     /// The variables that are known.
     pub known: u64,
-    /// Whether no more arguments of the head are known than before the first call, and the calls before may succeed with
-    /// no other variable known.
+    /// Whether no more arguments of the head are known than before the first call, and the calls before may succeed
+    /// with no other variable known.
     pub is_sure: bool,
 }
 

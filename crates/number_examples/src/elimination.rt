@@ -38,7 +38,8 @@ fn least_number(rt: HostRuntime) {
     assert!(rt; faults_of_least(rt.alloc()) == Some((wide, wide)));
 }
 
-/// Whether the rows have the point of this `t` and these `w`, or are refuted by multipliers of this scale, which is 0, and this list.
+/// Whether the rows have the point of this `t` and these `w`, or are refuted by multipliers of this scale, which is 0,
+/// and this list.
 fn is_solved(
     alloc: Global,
     width: u32,

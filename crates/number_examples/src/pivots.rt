@@ -160,7 +160,8 @@ fn said_of(said: Implied) -> Option<bool> {
     }
 }
 
-/// Whether this is what a search says of a row, or a second one where the first, from the basis of other rows, finds nothing.
+/// Whether this is what a search says of a row, or a second one where the first, from the basis of other rows, finds
+/// nothing.
 fn is_implied(
     alloc: Global,
     given: &Rows,
@@ -179,8 +180,8 @@ fn is_implied(
     Some(said == want)
 }
 
-/// Whether this is said of a row where each of two variables is at least 1, the second at most twice the first, and the last
-/// of the rows holds.
+/// Whether this is said of a row where each of two variables is at least 1, the second at most twice the first, and the
+/// last of the rows holds.
 fn is_implied_from(
     alloc: Global,
     last: &[i128],

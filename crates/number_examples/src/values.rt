@@ -1,5 +1,5 @@
-//! Worked rows of what values of terms have above 0 and below, over the variables X and Y. Of each variable a row has the
-//! numbers of its size, and of what its value has above 0 and below.
+//! Worked rows of what values of terms have above 0 and below, over the variables X and Y. Of each variable a row has
+//! the numbers of its size, and of what its value has above 0 and below.
 
 use cti_terms::{Arith, Name, Term};
 use linear_rows::Row;
@@ -55,8 +55,8 @@ fn has_rows(
     Ok(is_row(rows.above.as_ref(), above) && is_row(rows.below.as_ref(), below))
 }
 
-/// Of `5-Y` what is above 0 is 5 and what Y has below; of `-2*Y` twice what Y has below; `X*Y` is not linear; a term that
-/// is no operation has no value; and a number of 128 bits does not fit.
+/// Of `5-Y` what is above 0 is 5 and what Y has below; of `-2*Y` twice what Y has below; `X*Y` is not linear; a term
+/// that is no operation has no value; and a number of 128 bits does not fit.
 #[test]
 fn rows_of_values(rt: HostRuntime) {
     let most = i128::MAX;

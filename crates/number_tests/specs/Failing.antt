@@ -1,8 +1,8 @@
 -- To believe, for the command.
 -- Why tests of multipliers and of points fail.
 --
--- Multipliers fail where a column of their test is below 0, and a number of the target or of the test may not fit. At a point of a
--- pair, as in the sums of a refutation, that a number does not fit comes before all else.
+-- Multipliers fail where a column of their test is below 0, and a number of the target or of the test may not fit. At a
+-- point of a pair, as in the sums of a refutation, that a number does not fit comes before all else.
 --
 -- To believe: all of this file.
 use Rattle.std.specs.Prelude.{◌≡◌, ℕ, zero, suc, ◌+◌, ◌-◌, ◌<◌, ℤ, true, false, List, [], ◌∷◌, take, Option, None, Some, slice_get}
@@ -21,7 +21,8 @@ use Rattle.number_tests.specs.declared.flaw.Flaw.TheVariants as flaw
 use Rattle.number_tests.specs.declared.pair_point.PairPoint.{PairPoint}
 use Rattle.number_tests.specs.declared.point_flaw.PointFlaw.{PointFlaw}
 
--- multipliers do not show a target: a number of the target does not fit, or the first column that does not hold says why
+-- multipliers do not show a target: a number of the target does not fit, or the first column that does not hold says
+-- why
 pub data MultipliersFail (rows : List (List ℤ)) (ms target : List ℤ) (scale : ℤ) : Flaw → Type 0 where
   wide_target : row_fits target ≡ false → MultipliersFail rows ms target scale flaw.Wide
   wide : row_fits target ≡ true → Says rows ms target scale proof.Wide → MultipliersFail rows ms target scale flaw.Wide

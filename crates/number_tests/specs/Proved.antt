@@ -1,5 +1,6 @@
 -- To believe, for the command.
--- What multipliers have to show of one clause: that it keeps the size rows of its head, and that mappings fall at a call.
+-- What multipliers have to show of one clause: that it keeps the size rows of its head, and that mappings fall at a
+-- call.
 --
 -- A clause keeps a size row of its head where multipliers show the row over the rows of its body. A mapping falls at a
 -- call where multipliers show, over the rows of the atoms before the call, that the level of the head less that of the

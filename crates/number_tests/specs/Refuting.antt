@@ -3,8 +3,8 @@
 --
 -- A refutation has points of pairs of a clause and a call of its body. At each the size rows of the atoms before the
 -- call hold, and where its t is 0, they hold also at a second point. Some t is positive, and for each member of the
--- component and each coefficient, or the offset, the heads' values at the points are together at most the calls' values.
--- Each product, each running sum in the stated order and each row of the systems is to fit.
+-- component and each coefficient, or the offset, the heads' values at the points are together at most the calls'
+-- values. Each product, each running sum in the stated order and each row of the systems is to fit.
 --
 -- To believe: all of this file.
 use Rattle.std.specs.Prelude.{◌≡◌, ℕ, ◌-◌, ◌≤ℤ◌, ℤ, pos, true, List, [], ◌∷◌, map, take, length, Contains, slice_get, Option, None, Some, IfSome}

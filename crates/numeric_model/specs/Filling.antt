@@ -1,8 +1,8 @@
 -- Private.
 -- What is known of a predicate's rows, and how far their passes can still go.
 --
--- Rows other than the one row of constant -1 never contain that row, so a predicate leaves each state for good. After the
--- third pass a change of rows in one state makes the list shorter. So passes end.
+-- Rows other than the one row of constant -1 never contain that row, so a predicate leaves each state for good. After
+-- the third pass a change of rows in one state makes the list shorter. So passes end.
 use Rattle.std.specs.Prelude.{◌≡◌, ℕ, ◌+◌, ◌^◌, ℤ, List, [], ◌∷◌, length}
 use Rattle.linear_rows.specs.Members.{In}
 use Rattle.termination_model.specs.chains.ChainRows.{bottom_row, HasPoint}

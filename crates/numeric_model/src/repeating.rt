@@ -16,8 +16,8 @@ use std::alloc::{AllocError, Global};
 use term_size::Norm;
 use termination_model::{How, Sizes, system};
 
-/// One more step on the clause of an earlier one, if that noted an image with a point and the rows of the head's predicate
-/// hold on the clause, so that they stay.
+/// One more step on the clause of an earlier one, if that noted an image with a point and the rows of the head's
+/// predicate hold on the clause, so that they stay.
 pub(crate) fn note_again<D: Domain, N: Norm>(
     alloc: Global,
     p: &Program,

@@ -21,8 +21,8 @@ use polyhedra::Domain;
 use std::alloc::{AllocError, Global};
 use term_size::Norm;
 
-/// What a step on clause `k` does to the value of its head's predicate. Where the rows that it reads are those that the last
-/// one read, it takes that one's image, if the head's rows stay.
+/// What a step on clause `k` does to the value of its head's predicate. Where the rows that it reads are those that the
+/// last one read, it takes that one's image, if the head's rows stay.
 fn note<D: Domain, N: Norm>(
     alloc: Global,
     p: &Program,

@@ -45,8 +45,8 @@ impl Sink for MemSink {
         ensures cause { OnErr result (Rose self.old.faults self.new.faults) }
         ensures later { self.old.faults ≤ self.new.faults }
 
-        // A write counts as a call, and as a fault exactly where it fails. It fails where its number is listed or a piece
-        // meets a chunk of 0, and else only where there is no memory.
+        // A write counts as a call, and as a fault exactly where it fails. It fails where its number is listed or a
+        // piece meets a chunk of 0, and else only where there is no memory.
         ensures calls { self.new.calls ≡ one_more self.old.calls }
         ensures faults { OnErr result (self.new.faults ≡ one_more self.old.faults) }
         ensures calm { OnOk result (self.new.faults ≡ self.old.faults) }

@@ -77,7 +77,8 @@ Splits (x ∷ xs) kept lost =
 abbrev pub IsLost : System → Bool → Bool → List ℤ → Type 0
 IsLost s failed weak row = ((failed ≡ true) × Fails s row) ⊎ ((weak ≡ true) × IsBlownOn s row)
 
--- the rows that are kept, with their proofs, and those that are lost: whether some fail, and the tests of some are blown
+-- the rows that are kept, with their proofs, and those that are lost: whether some fail, and the tests of some are
+-- blown
 pub record SaysKept (s : System) (old rows : List (List ℤ)) (failed weak : Bool) (by : List Multipliers) : Type 0 where
   pub lost : List (List ℤ)
   pub split : Splits old rows lost

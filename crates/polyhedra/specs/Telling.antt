@@ -17,7 +17,8 @@ use Rattle.simplex.specs.declared.held.Held.TheVariants.{Yes, No, Blown}
 abbrev pub at_head : System → List ℤ → List ℤ
 at_head s row = substituted s.variables (plain_rows s.head.list) row
 
--- a test of a row on a clause's system is blown: a row of the system did not fit, or the test of the replaced row is blown
+-- a test of a row on a clause's system is blown: a row of the system did not fit, or the test of the replaced row is
+-- blown
 abbrev pub IsBlownOn : System → List ℤ → Type 0
 IsBlownOn s row = (s.wide ≡ true) ⊎ TestIsBlown s.variables (plain_rows s.rows.list) (at_head s row)
 

@@ -87,8 +87,8 @@ pub trait Domain: Drop + Sized {
         ensures arity { IfOk result (λ made. width made.value ≡ width self.now) }
         ensures rows { IfOk result (SaysWidened listed system.now self.now) };
 
-    /// The row of constant -1 and zeros is spoken of, each row that a value lists has the value's arity and is spoken of,
-    /// and rows that are spoken of fit.
+    /// The row of constant -1 and zeros is spoken of, each row that a value lists has the value's arity and is spoken
+    /// of, and rows that are spoken of fit.
     ghost laws: { ((n : ℕ) → speaks (bottom_row n) ≡ true) × ((d : Self) → AreSpoken speaks (width d)
         (listed d)) × ((r : List ℤ) → speaks r ≡ true → row_fits r ≡ true) };
 }

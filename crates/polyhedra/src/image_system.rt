@@ -1,5 +1,5 @@
-//! The rows of an image's system: the variables are naturals, the head's arguments equal their size expressions, and the
-//! body's rows hold.
+//! The rows of an image's system: the variables are naturals, the head's arguments equal their size expressions, and
+//! the body's rows hold.
 
 ghost use Rattle.std.specs.Prelude.{◌≡◌, ◌+◌, ◌≤◌, ◌<◌, ◌++◌, ◌∷◌, pos, ◌≤ℤ◌, IfOk, OnOk, All, length, map};
 ghost use Rattle.linear_rows.specs.Plain.{HaveWidth, plain_row, plain_rows};

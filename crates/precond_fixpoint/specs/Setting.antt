@@ -1,6 +1,6 @@
 -- Private.
--- What is required of a search: of what it reads and leaves as it is, and of the component that it is for. Nothing here has
--- to be believed.
+-- What is required of a search: of what it reads and leaves as it is, and of the component that it is for. Nothing here
+-- has to be believed.
 use Rattle.std.specs.Prelude.{◌≡◌, ◌+◌, ℕ, List, length, map, slice_get, Some}
 use Rattle.bool_diagrams.specs.Tree.{Tree as Rows}
 use Rattle.bool_diagrams.specs.declared.diagram.Diagram.{Diagram}

@@ -14,8 +14,8 @@ use std::alloc::AllocError;
 use term_size::Norm;
 use truth_rows::{ClauseRule, atom_rows, place_head, put_body_off, rows_of_head, without_ended};
 
-/// The rows of a set on which an atom of the clause is not in its own set: in `pre` if it is of the head's component, else
-/// in `allowed`.
+/// The rows of a set on which an atom of the clause is not in its own set: in `pre` if it is of the head's component,
+/// else in `allowed`.
 fn leaving_rows<N: Norm>(
     norm: &N,
     table: &mut Table,

@@ -14,8 +14,8 @@ use groundness::Marks;
 use std::alloc::AllocError;
 use term_size::Norm;
 
-/// Puts into the places of a component's members their greatest sets for the mapping of this number. The places of other
-/// predicates stay.
+/// Puts into the places of a component's members their greatest sets for the mapping of this number. The places of
+/// other predicates stay.
 pub(crate) fn greatest_sets<N: Norm>(
     setting: &Setting<N>,
     component: &Component,

@@ -1,8 +1,9 @@
 //! The greatest preconditions of a program's predicates, and the modes that they allow.
 //!
 //! A component has a level mapping for each of its preconditions. From all rows that are true at a mapping's positive
-//! coefficients, those are removed from which a clause reaches a call outside its set, until the rule holds; what is left is
-//! the greatest precondition. Its rows that stay in it where further arguments become rigid are allowed for callers.
+//! coefficients, those are removed from which a clause reaches a call outside its set, until the rule holds; what is
+//! left is the greatest precondition. Its rows that stay in it where further arguments become rigid are allowed for
+//! callers.
 //!
 //! Depends on `truth_rows` and `groundness` for these sets, and on `termination_model` for what ends.
 #![tactic(auto)]

@@ -10,8 +10,8 @@ use sequences::Sequence;
 
 /// Preconditions and modes by predicate, as `solve_levels` gives them.
 pub struct Preconditions {
-    /// For each predicate a set of truth rows for each mapping of its component, as a diagram of the table in which it was
-    /// made. Variable i is argument i.
+    /// For each predicate a set of truth rows for each mapping of its component, as a diagram of the table in which it
+    /// was made. Variable i is argument i.
     pub sets: Sequence<Sequence<Diagram>>,
     /// For each predicate its minimal modes, by length and then in lexicographic order.
     pub modes: Sequence<Sequence<Mode>>,

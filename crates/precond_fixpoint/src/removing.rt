@@ -130,8 +130,8 @@ fn remove_member<N: Norm>(
 
 /// Makes covering rows of a mapping into the component's greatest sets for it, by removing rows.
 ///
-/// It begins with a mark for each clause of the component. It takes a mark away and removes the clause's broken rows; where
-/// there was one, the clauses that call the head's predicate get marks. It ends when no clause has a mark.
+/// It begins with a mark for each clause of the component. It takes a mark away and removes the clause's broken rows;
+/// where there was one, the clauses that call the head's predicate get marks. It ends when no clause has a mark.
 pub(crate) fn shrink<N: Norm>(
     setting: &Setting<N>,
     component: &Component,

@@ -25,11 +25,11 @@ use term_size::Norm;
 
 /// The greatest preconditions for the mappings of each component, and the minimal modes that they allow.
 ///
-/// `levels` has for each predicate its part in each mapping of its component, and `grounds` the ground rows. Components go
-/// callees first. For each mapping the preconditions of a component are the greatest that keep the rule: each of their rows
-/// is true at positive coefficients, and from a row of a clause's head each call that is reached has a row in turn, in the
-/// same precondition within the component and an allowed one below it. What is allowed of a predicate are the rows that some
-/// mapping's precondition has with all upper rows; its minimal ones are the modes.
+/// `levels` has for each predicate its part in each mapping of its component, and `grounds` the ground rows. Components
+/// go callees first. For each mapping the preconditions of a component are the greatest that keep the rule: each of
+/// their rows is true at positive coefficients, and from a row of a clause's head each call that is reached has a row
+/// in turn, in the same precondition within the component and an allowed one below it. What is allowed of a predicate
+/// are the rows that some mapping's precondition has with all upper rows; its minimal ones are the modes.
 /// Out of memory, the table keeps its earlier diagrams.
 pub fn solve_levels<N: Norm>(
     alloc: Global,
@@ -194,12 +194,13 @@ fn solve_each<N: Norm>(
     Ok(())
 }
 
-/// Puts into the places of a component's members its greatest preconditions for each of its mappings, and what these allow.
+/// Puts into the places of a component's members its greatest preconditions for each of its mappings, and what these
+/// allow.
 ///
 /// `sets` and `allowed` are those of the components that it calls. What the places of members hold before does not
 /// matter, nor do the marks there are, and the places of other predicates stay. `pre` has a set for each predicate,
-/// whatever it is, and is used for the members' sets of one mapping at a time. Out of memory, the table keeps its earlier
-/// diagrams.
+/// whatever it is, and is used for the members' sets of one mapping at a time. Out of memory, the table keeps its
+/// earlier diagrams.
 pub fn solve_component<N: Norm>(
     alloc: Global,
     setting: &Setting<N>,

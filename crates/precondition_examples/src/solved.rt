@@ -118,8 +118,8 @@ fn modes(alloc: Global, text: &str, mappings: &[[i128; 3]], pred: u32) -> Result
     Ok(numbers)
 }
 
-/// The modes of append come from one mapping each. A program without recursion asks for nothing. A query of q(_) below p
-/// loops where q has no mapping: then two rows of p are never reached, and neither has all rows above it.
+/// The modes of append come from one mapping each. A program without recursion asks for nothing. A query of q(_) below
+/// p loops where q has no mapping: then two rows of p are never reached, and neither has all rows above it.
 #[test]
 fn modes_that_are_found(rt: HostRuntime) -> Result<(), Fail> {
     let alloc = rt.alloc();

@@ -28,8 +28,8 @@ fn cubes_have_rows(rt: HostRuntime) {
     }
 }
 
-/// Whether the set of (1,0) and (1,1) admits the mode, its union with (0,1) does so with the rows above it, and that of (0,1) alone
-/// does not.
+/// Whether the set of (1,0) and (1,1) admits the mode, its union with (0,1) does so with the rows above it, and that of
+/// (0,1) alone does not.
 fn are_admitted(
     alloc: Global,
     table: &mut Table,

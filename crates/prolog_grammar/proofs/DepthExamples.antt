@@ -1,5 +1,5 @@
--- Worked examples of the depth rule, most of them with the limit 2: a token is too deep that begins an operand under more than two
--- openers, and an infix operator after a term of depth 2 or more. The last ones have the limit 1000.
+-- Worked examples of the depth rule, most of them with the limit 2: a token is too deep that begins an operand under
+-- more than two openers, and an infix operator after a term of depth 2 or more. The last ones have the limit 1000.
 use Rattle.std.proofs.Common.{◌≡◌, ℕ, zero, suc, true, is_ok, List, [], ◌∷◌, Err, refl}
 use Rattle.prolog_grammar.specs.Token.{variable, integer, text, Token, Leaf, Name, Paren, Touching, ParenEnd, Bracket, BracketEnd, Comma, End}
 use Rattle.prolog_grammar.specs.Rules.{plain}
@@ -66,7 +66,8 @@ text_of_two_characters : Verdicts (Paren 0 ∷ Leaf 1 (text (97 ∷ 98 ∷ [])) 
 unfolding walk
 text_of_two_characters = refl
 
--- ( - ?- ; with a parenthesis that touches the ;: it would be an operator with the left term -(?-), which is too deep, and the parenthesis is unexpected
+-- ( - ?- ; with a parenthesis that touches the ;: it would be an operator with the left term -(?-), which is too deep,
+-- and the parenthesis is unexpected
 deep_left_side_and_an_unexpected_token : Verdicts (Paren 0 ∷ Name 2 minus ∷ Name 4 query ∷ Name 7 semicolon ∷ Touching 8 ∷ [])
     (Err (unexpected (Touching 8 ∷ [])))
 unfolding walk

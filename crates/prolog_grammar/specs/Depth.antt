@@ -1,12 +1,12 @@
 -- To believe, for reading.
 -- The depth rule: what a reading asks of each of its tokens, and the first token that breaks the rule.
 --
--- Openers are: a parenthesis, a bracket and a brace, up to what closes it; in a list each comma and the bar, for all that follows
--- it in the list; a prefix operator that is applied, for its operand; and an infix operator, for its right side. A text of n
--- characters counts as n further openers for itself.
+-- Openers are: a parenthesis, a bracket and a brace, up to what closes it; in a list each comma and the bar, for all
+-- that follows it in the list; a prefix operator that is applied, for its operand; and an infix operator, for its right
+-- side. A text of n characters counts as n further openers for itself.
 --
--- A token is too deep that begins an operand under more openers than the limit, and an infix operator that is taken after a term of
--- the limit's depth or more.
+-- A token is too deep that begins an operand under more openers than the limit, and an infix operator that is taken
+-- after a term of the limit's depth or more.
 --
 -- To believe: all of this file.
 use Rattle.std.specs.Prelude.{ℕ, suc, ◌+◌, nat_le, nat_lt, List, [], ◌∷◌, length, Option, Some, None, Bool, false, if◌then◌else◌}
@@ -14,7 +14,8 @@ use Rattle.prolog_grammar.specs.Token.{Value, variable, integer, text}
 use Rattle.prolog_grammar.specs.Rules.{Head, plain, brackets, braces}
 use Rattle.prolog_grammar.specs.Syntax.{Syntax, Syntaxes, leaf, negative, atom, call, prefixed, infixed, listed, listed_to, curled, grouped, nothing, more, depth}
 
--- what a token does: nothing that counts, or it begins an operand under the given number of openers, or is an infix operator after a term of that depth
+-- what a token does: nothing that counts, or it begins an operand under the given number of openers, or is an infix
+-- operator after a term of that depth
 pub data Load : Type 0 where
   quiet : Load
   operand : ℕ → Load

@@ -1,7 +1,8 @@
 -- To believe, for reading.
 -- Where a clause's tokens are not a clause: the first unexpected token, and the first token that is too deep.
 --
--- "Some further tokens" are any tokens. Those with which the proofs complete a clause touch one another only as tokens of a text do.
+-- "Some further tokens" are any tokens. Those with which the proofs complete a clause touch one another only as tokens
+-- of a text do.
 --
 -- To believe: all of this file.
 use Rattle.std.specs.Prelude.{◌≡◌, ℕ, List, [], ◌∷◌, ◌++◌, length, Some, Result, Bool, true, false}
@@ -24,7 +25,8 @@ abbrev pub CannotGoOn : {T : Type 0} → Rules T → List Token → List Token �
 CannotGoOn rules before [] = Unit {0}
 CannotGoOn rules before (token ∷ rest) = CanGoOn rules (before ++ token ∷ []) → ⊥
 
--- The rest begins at the first token such that nothing completes the tokens up to and with it, or is empty where the tokens end too early.
+-- The rest begins at the first token such that nothing completes the tokens up to and with it, or is empty where the
+-- tokens end too early.
 pub record IsUnexpected {T : Type 0} (rules : Rules T) (us rest : List Token) : Type 0 where
   pub before : List Token
   pub whole : us ≡ before ++ rest
@@ -38,12 +40,14 @@ abbrev pub is_name : Token → Bool
 is_name (Name at n) = true
 is_name _ = false
 
--- of what follows a name it counts whether a parenthesis touches the name, and of what follows another token nothing counts
+-- of what follows a name it counts whether a parenthesis touches the name, and of what follows another token nothing
+-- counts
 abbrev pub FollowsAlike : Token → List Token → List Token → Type 0
 FollowsAlike token us vs = is_name token ≡ true → touches us ≡ touches vs
 
--- The rest begins at a token that is too deep before all others, however the tokens up to and with it go on; and they can go on. A name
--- keeps the parenthesis that touches it: so a name whose role is open counts only where every continuation makes it too deep.
+-- The rest begins at a token that is too deep before all others, however the tokens up to and with it go on; and they
+-- can go on. A name keeps the parenthesis that touches it: so a name whose role is open counts only where every
+-- continuation makes it too deep.
 pub record IsDeep (limit : ℕ) (rules : Rules Syntax) (us rest : List Token) : Type 0 where
   pub before : List Token
   pub token : Token

@@ -1,13 +1,15 @@
 -- To believe, for reading.
--- The grammar of terms, by cases. Each relation has the tokens before and after what is read: from us it is read, and vs is left.
+-- The grammar of terms, by cases. Each relation has the tokens before and after what is read: from us it is read, and
+-- vs is left.
 --
--- A term at a bound is an operand, and then infix operators with their right sides for as long as the next token is one that is
--- taken. So an operator belongs to the innermost term that can take it. A clause is a term at 1200 with End after it. A prefix
--- application has its operator's priority, and every other operand has priority 0.
+-- A term at a bound is an operand, and then infix operators with their right sides for as long as the next token is one
+-- that is taken. So an operator belongs to the innermost term that can take it. A clause is a term at 1200 with End
+-- after it. A prefix application has its operator's priority, and every other operand has priority 0.
 --
 -- To believe: all of this file.
--- Source: ISO/IEC 13211-1:1995, 6.3.1 to 6.3.7. This profile departs from the standard in three points: an operator may be an atom
--- anywhere, and then has priority 0; the bar is not an operator; where the standard allows two readings, the cases below say which one counts.
+-- Source: ISO/IEC 13211-1:1995, 6.3.1 to 6.3.7. This profile departs from the standard in three points: an operator may
+-- be an atom anywhere, and then has priority 0; the bar is not an operator; where the standard allows two readings, the
+-- cases below say which one counts.
 use Rattle.std.specs.Prelude.{◌≡◌, ℕ, ◌≤◌, List, [], ◌∷◌, Option, Some, None, true, false}
 use Rattle.prolog_grammar.specs.Token.{Value, integer, Token, Leaf, Joined, Name, Paren, Touching, ParenEnd, Bracket, BracketEnd, Brace, BraceEnd, Comma, Bar, clings, touches}
 use Rattle.prolog_grammar.specs.Rules.{Infix, Prefix, plain, brackets, braces, Rules, taken_first, ends_atom}
@@ -62,8 +64,8 @@ mutual
     next_argument : {us vs rest : List Token} {t : T} {p : ℕ} {ts : List T}
         → TermOf rules us (Comma ∷ vs) 999 t p → Arguments rules vs rest ts → Arguments rules us rest (t ∷ ts)
 
-  -- Items rules us vs ts tail: a list's elements ts, each at 999, with commas between, the tail at 999 after a bar, if there is one, and
-  -- the bracket that closes the list
+  -- Items rules us vs ts tail: a list's elements ts, each at 999, with commas between, the tail at 999 after a bar, if
+  -- there is one, and the bracket that closes the list
   pub data Items {T : Type 0} (rules : Rules T) : List Token → List Token → List T → Option T → Type 0 where
     last_item : {us rest : List Token} {t : T} {p : ℕ} → TermOf rules us (BracketEnd ∷ rest) 999 t p → Items rules us rest (t ∷ []) None
     with_tail : {us vs rest : List Token} {t : T} {p : ℕ} {t' : T} {p' : ℕ}
@@ -77,7 +79,8 @@ mutual
     a_term : {us vs rest : List Token} {bound : ℕ} {t : T} {p : ℕ} {t' : T} {p' : ℕ}
         → Operand rules us vs bound t p → Rest rules vs rest bound t p t' p' → TermOf rules us rest bound t' p'
 
-  -- Rest rules us vs bound t p t' p': what follows t of priority p at the bound makes of it t' of priority p', and vs is left
+  -- Rest rules us vs bound t p t' p': what follows t of priority p at the bound makes of it t' of priority p', and vs
+  -- is left
   pub data Rest {T : Type 0} (rules : Rules T) : List Token → List Token → ℕ → T → ℕ → T → ℕ → Type 0 where
     -- the next token is not an operator that is taken
     no_more : {rest : List Token} {bound : ℕ} {t : T} {p : ℕ} → taken_first rules bound p rest ≡ None → Rest rules rest rest bound t p t p

@@ -1,7 +1,8 @@
 -- Private.
 -- The reader as a machine with a stack of what is open, which takes a token at a time. The laws are proved on it.
 --
--- Letters: us and rest are tokens, t is a term, p its priority, k the stack, r and b are bounds, n and m names, `at` a place.
+-- Letters: us and rest are tokens, t is a term, p its priority, k the stack, r and b are bounds, n and m names, `at` a
+-- place.
 --
 -- Nothing here has to be believed: the laws say that it reads what the grammar reads.
 use Rattle.std.specs.Prelude.{ℕ, List, [], ◌∷◌, ◌++◌, Option, Some, None, Result, Ok, Err, nat_le, Bool, true, false, if◌then◌else◌}
@@ -24,8 +25,8 @@ inside (arguments_open h ts) = 999
 inside (items_open at ts) = 999
 inside (tail_open at ts) = 999
 
--- what is open, with the bound of the term round it: an infix operator with its priority and left side, a prefix operator with its place
--- and priority, or an opening token
+-- what is open, with the bound of the term round it: an infix operator with its priority and left side, a prefix
+-- operator with its place and priority, or an opening token
 pub data Frame (T : Type 0) : Type 0 where
   infix_frame : ℕ → ℕ → ℕ → T → Frame T
   prefix_frame : ℕ → ℕ → ℕ → ℕ → Frame T

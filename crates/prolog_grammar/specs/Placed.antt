@@ -1,8 +1,9 @@
 -- To believe, for reading.
 -- Terms as they stand in a text: each with the place of the first byte of its first token, counted from 0.
 --
--- A parenthesis round a term is a token of that term. A list is built of cells '.' with two arguments and [], a text is the list of its
--- character codes, and a term in braces is {} of it; all cells have the place of the bracket or the text. -0 is 0.
+-- A parenthesis round a term is a token of that term. A list is built of cells '.' with two arguments and [], a text is
+-- the list of its character codes, and a term in braces is {} of it; all cells have the place of the bracket or the
+-- text. -0 is 0.
 --
 -- The depth is counted up to the limit only, so that it fits into a number of the code.
 --

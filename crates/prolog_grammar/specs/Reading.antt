@@ -3,7 +3,8 @@
 --
 -- The tokens of a query are read with an End after them, where they have none, and nothing may stand after it.
 --
--- To believe: all of this file. It says once more, for the terms of the code, what `Grammar`, `Depth`, `Fault` and `Placed` say.
+-- To believe: all of this file. It says once more, for the terms of the code, what `Grammar`, `Depth`, `Fault` and
+-- `Placed` say.
 use Rattle.std.specs.Prelude.{◌≡◌, ℕ, List, ◌∷◌, Option, None, Ok, Err}
 use Rattle.prolog_grammar.specs.Token.{Token, End}
 use Rattle.prolog_grammar.specs.Rules.{Infix, Prefix}
@@ -14,8 +15,8 @@ use Rattle.prolog_grammar.specs.Fault.{IsUnexpected, IsDeep, unexpected, deep, V
 use Rattle.prolog_grammar.specs.Placed.{Part, Known, part_of}
 
 module _ (limit : ℕ) (infixes : ℕ → Option Infix) (prefixes : ℕ → Option Prefix) (names : Known) where
-  -- The first clause of these tokens reads as that term: the grammar has a reading of it in which no token is too deep. The rest stands
-  -- after its End.
+  -- The first clause of these tokens reads as that term: the grammar has a reading of it in which no token is too deep.
+  -- The rest stands after its End.
   pub record ReadsAs (us rest : List Token) (part : Part) : Type 0 where
     pub syntax : Syntax
     pub priority : ℕ

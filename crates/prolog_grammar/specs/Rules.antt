@@ -1,8 +1,8 @@
 -- To believe, for reading.
 -- What the grammar is given: the operators, and what is built of what is read.
 --
--- The grammar is the same for every table of operators, and never looks at what is built. So one grammar serves for trees with all
--- their tokens (`syntax_rules`) and for the terms of the code (`placed_rules`).
+-- The grammar is the same for every table of operators, and never looks at what is built. So one grammar serves for
+-- trees with all their tokens (`syntax_rules`) and for the terms of the code (`placed_rules`).
 --
 -- To believe: all of this file.
 -- Source: ISO/IEC 13211-1:1995, 6.3.4 (operator notation).
@@ -26,12 +26,14 @@ pub data Head : Type 0 where
   brackets : ℕ → Head
   braces : ℕ → Head
 
--- the operators, and what is built: where a builder takes numbers, the place is the first and the name or integer the second
+-- the operators, and what is built: where a builder takes numbers, the place is the first and the name or integer the
+-- second
 pub record Rules (T : Type 0) : Type 0 where
   -- the infix and the prefix meaning of a name
   pub infixes : ℕ → Option Infix
   pub prefixes : ℕ → Option Prefix
-  -- the name that the comma token has as an operator; a quoted comma is a name like others, which no table of the reader has
+  -- the name that the comma token has as an operator; a quoted comma is a name like others, which no table of the
+  -- reader has
   pub comma : ℕ
   -- a variable, an integer or a text
   pub leaf : ℕ → Value → T
@@ -72,8 +74,8 @@ taken_first rules bound so_far (token ∷ rest) = taken rules bound so_far token
 abbrev pub is_infix_alone : {T : Type 0} → Rules T → ℕ → Bool
 is_infix_alone rules n = is_some (rules.infixes n) && is_none (rules.prefixes n)
 
--- a prefix operator before these tokens is an atom: they end what it stands in, or an infix operator follows it that is not a prefix
--- operator and no name with a parenthesis directly after it
+-- a prefix operator before these tokens is an atom: they end what it stands in, or an infix operator follows it that is
+-- not a prefix operator and no name with a parenthesis directly after it
 abbrev pub ends_atom : {T : Type 0} → Rules T → List Token → Bool
 ends_atom rules [] = true
 ends_atom rules (Name at n ∷ rest) = is_infix_alone rules n && not (touches rest)

@@ -56,8 +56,8 @@ have_load rules (prefix_frame b at n q ∷ k) bound t p token =
     load_or (taken rules bound p token) (rules.depth t) (have_load rules k b (rules.prefixed at n t) q token)
 have_load rules (open_frame b o ∷ k) bound t p token = load_or (taken rules bound p token) (rules.depth t) quiet
 
--- a name that is an infix operator alone, after a prefix operator: where a parenthesis touches it, it begins an operand, if the prefix
--- operator can be applied
+-- a name that is an infix operator alone, after a prefix operator: where a parenthesis touches it, it begins an
+-- operand, if the prefix operator can be applied
 abbrev pub fork_load : Bool → Bool → ℕ → Load → Load
 fork_load can false h apart = apart
 fork_load true true h apart = operand h

@@ -35,8 +35,8 @@ abbrev pub greater : ℕ → ℕ → ℕ
 greater a b = if nat_le a b then b else a
 
 abbrev mutual
-  -- How deep a term is: 1 without arguments, else one more than its deepest argument. A list and a text are chains of cells with two
-  -- arguments, and a term in parentheses is that term.
+  -- How deep a term is: 1 without arguments, else one more than its deepest argument. A list and a text are chains of
+  -- cells with two arguments, and a term in parentheses is that term.
   pub depth : Syntax → ℕ
   depth (leaf at (variable v)) = 1
   depth (leaf at (integer i)) = 1

@@ -1,15 +1,16 @@
 -- To believe, for reading.
 -- The tokens of a clause, as the grammar sees them.
 --
--- The first number of a token is its place: the byte at which it begins, counted from 0. A name is a number, and so is a variable,
--- by its first occurrence in the clause. Where it matters that a token touches the one before it, the token itself says so. So
--- no token says anything of what follows it.
+-- The first number of a token is its place: the byte at which it begins, counted from 0. A name is a number, and so is
+-- a variable, by its first occurrence in the clause. Where it matters that a token touches the one before it, the token
+-- itself says so. So no token says anything of what follows it.
 --
 -- To believe: all of this file.
 -- Source: ISO/IEC 13211-1:1995, 6.4 (tokens).
 use Rattle.std.specs.Prelude.{ℕ, List, ◌∷◌, Bool, true, false}
 
--- what a token stands for that is an operand by itself: a variable, an integer from 0 on, or a quoted text as its character codes
+-- what a token stands for that is an operand by itself: a variable, an integer from 0 on, or a quoted text as its
+-- character codes
 pub data Value : Type 0 where
   variable : ℕ → Value
   integer : ℕ → Value

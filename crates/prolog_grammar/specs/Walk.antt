@@ -1,5 +1,6 @@
 -- Private.
--- The machine as the code has it: it knows whether a parenthesis touches the token at hand, and tests the depth rule in the same step.
+-- The machine as the code has it: it knows whether a parenthesis touches the token at hand, and tests the depth rule in
+-- the same step.
 --
 -- Letters: as in `Machine`.
 --
@@ -77,7 +78,8 @@ abbrev pub only_stuck : {T : Type 0} → Next T → Next T
 only_stuck unexpected_here = unexpected_here
 only_stuck _ = stuck
 
--- a prefix operator that can be applied or not, and a name that is an infix operator alone, which a parenthesis touches or not
+-- a prefix operator that can be applied or not, and a name that is an infix operator alone, which a parenthesis touches
+-- or not
 abbrev pub walk_fork : {T : Type 0} → Bool → Bool → ℕ → Rules T → List (Frame T) → ℕ → ℕ → ℕ → Prefix → ℕ → ℕ → Next T
 walk_fork true true limit rules k bound at n op at' m = walk_want limit rules op.right (prefix_frame bound at n op.priority ∷ k) (Name at' m)
 walk_fork false true limit rules k bound at n op at' m = only_stuck (walk_have limit rules k bound (rules.atom (plain at n)) 0 (Name at' m))

@@ -18,7 +18,8 @@ pub fn same_verdicts()
         ≡ verdict_map (part_of limit names) (run limit (syntax_rules infixes prefixes names.comma) start us) }
 {}
 
-/// Tokens have exactly one verdict: their first clause as a term, or its first fault. The machine that code follows gives it.
+/// Tokens have exactly one verdict: their first clause as a term, or its first fault. The machine that code follows
+/// gives it.
 pub fn one_verdict()
     ensures found { (infixes : ℕ → Option Infix) (prefixes : ℕ → Option Prefix) (names : Known)
         (limit : ℕ) (us : List Token)

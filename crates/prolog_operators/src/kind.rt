@@ -1,7 +1,7 @@
 //! Kinds of operators.
 
-/// Whether an operator is infix or prefix, and which sides allow its own priority. A side that is marked `x` has a lower
-/// priority than the operator, and one that is marked `y` at most the operator's.
+/// Whether an operator is infix or prefix, and which sides allow its own priority. A side that is marked `x` has a
+/// lower priority than the operator, and one that is marked `y` at most the operator's.
 #[derive(Clone, Copy, Debug, PartialEq, Eq)]
 pub enum OpKind {
     /// Infix, with lower priorities on both sides.

@@ -1,7 +1,8 @@
 //! The operators in force while a text is read, which the text may change.
 //!
-//! Each name has at most one infix and one prefix meaning; what the table is and how one meaning is set stand in `specs/Table.antt`.
-//! Depends on `cti_terms` for names, `prolog_grammar` for what an operator is, `prolog_tokens` for a lemma, and `thiserror`.
+//! Each name has at most one infix and one prefix meaning; what the table is and how one meaning is set stand in
+//! `specs/Table.antt`. Depends on `cti_terms` for names, `prolog_grammar` for what an operator is, `prolog_tokens` for
+//! a lemma, and `thiserror`.
 #![tactic(auto)]
 
 mod fault;

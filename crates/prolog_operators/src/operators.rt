@@ -28,7 +28,8 @@ pub struct Prefix {
     pub right: u32,
 }
 
-/// The operators in force: each name has at most one infix and one prefix meaning. Contracts see the two meanings of each name, `table_of`.
+/// The operators in force: each name has at most one infix and one prefix meaning. Contracts see the two meanings of
+/// each name, `table_of`.
 #[derive(Drop)]
 pub struct Ops {
     infixes: BTreeMap<u32, Infix>,
@@ -57,8 +58,8 @@ pub fn priority_in(priority: i128) -> Option<u32>
 }
 
 impl Ops {
-    /// The operators before the first clause of a text. The names that they need are put to `names`, which keeps all earlier ones
-    /// also where memory runs out.
+    /// The operators before the first clause of a text. The names that they need are put to `names`, which keeps all
+    /// earlier ones also where memory runs out.
     ///
     /// Source: ISO/IEC 13211-1:1995, 6.3.4.4, in this project's profile.
     pub fn standard(alloc: Global, names: &mut Names) -> Result<Ops, AllocError>
@@ -76,8 +77,8 @@ impl Ops {
         Ok(ops)
     }
 
-    /// Sets one infix or prefix meaning of a name that `names` gave, or removes it with priority 0. All other meanings stay, and after a
-    /// refusal all do.
+    /// Sets one infix or prefix meaning of a name that `names` gave, or removes it with priority 0. All other meanings
+    /// stay, and after a refusal all do.
     ///
     /// The priority is tested before the name.
     ///

@@ -37,8 +37,9 @@ seen_tokens names text ts = tokens_of names text none_seen None ts
 abbrev pub text_with : List ℕ → List TextToken → List ℕ → List ℕ
 text_with text ts bytes = take (end_behind 0 ts) text ++ bytes
 
--- Some bytes complete the clause that these tokens of a text begin, after those of earlier clauses. Where the bytes stand after the last
--- of the tokens, in the place of what stood there, the tokens are still what they were, and those that follow make them a clause.
+-- Some bytes complete the clause that these tokens of a text begin, after those of earlier clauses. Where the bytes
+-- stand after the last of the tokens, in the place of what stood there, the tokens are still what they were, and those
+-- that follow make them a clause.
 pub record IsCompleted (names : List (List ℕ)) (table : Table) (text : List ℕ) (earlier begun : List TextToken) : Type 0 where
   pub bytes : List ℕ
   pub more : List TextToken

@@ -1,8 +1,9 @@
 -- To believe, for reading.
 -- What a clause `:- op(P,T,N)` does to the operators.
 --
--- P is an integer from 0 to 1200, T one of the atoms xfx, xfy, yfx, fx and fy, and N an atom or a list of atoms, none of them a comma, a
--- bar, [] or {}. An N that is [] is the empty list. Where P, T or N is not so, the clause is refused.
+-- P is an integer from 0 to 1200, T one of the atoms xfx, xfy, yfx, fx and fy, and N an atom or a list of atoms, none
+-- of them a comma, a bar, [] or {}. An N that is [] is the empty list. Where P, T or N is not so, the clause is
+-- refused.
 --
 -- To believe: all of this file.
 -- Source: ISO/IEC 13211-1:1995, 8.14.3 (op/3), in this project's profile.

@@ -1,5 +1,6 @@
 -- Private.
--- How large what the machine has open is, and that its variables and names are in range. Nothing here has to be believed.
+-- How large what the machine has open is, and that its variables and names are in range. Nothing here has to be
+-- believed.
 use Rattle.std.specs.Prelude.{◌≡◌, ℕ, suc, ◌+◌, ◌*◌, ◌<◌, ◌≤◌, true, List, [], ◌∷◌, length}
 use Rattle.prolog_grammar.specs.Token.{Value, variable, integer, text, Token, Leaf, Joined, Name, Paren, Touching, ParenEnd, Bracket, BracketEnd, Brace, BraceEnd, Comma, Bar, End}
 use Rattle.prolog_grammar.specs.Rules.{Head, plain, brackets, braces}

@@ -1,7 +1,8 @@
 -- To believe, for reading.
 -- The names that a text gives: each text that names something, in the order in which they first occur.
 --
--- First come the texts that the reader itself names, then those of the names in the text, up to its end or its first lexical fault.
+-- First come the texts that the reader itself names, then those of the names in the text, up to its end or its first
+-- lexical fault.
 --
 -- To believe: all of this file, and below it `with_text` of cti_terms, `meaning_of` and `Lexes` of prolog_tokens.
 use Rattle.std.specs.Prelude.{◌≡◌, ℕ, List, [], ◌∷◌, ◌++◌, Option, codes}

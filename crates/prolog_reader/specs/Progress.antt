@@ -59,7 +59,8 @@ pub record IsSame (old new : ClauseReader) : Type 0 where
   pub names : new.parser.names ≡ old.parser.names
   pub is_query : new.is_query ≡ old.is_query
 
--- where the reading of a clause began: the lexer after the first token, the names, and the reader with the first token at hand
+-- where the reading of a clause began: the lexer after the first token, the names, and the reader with the first token
+-- at hand
 pub record Start : Type 0 where
   pub lexer : Cursor
   pub names : List (List ℕ)

@@ -1,14 +1,16 @@
 -- To believe, for reading.
 -- What a text reads as, or its first fault; and the same of a query.
 --
--- Names are their numbers in a list of names. The list has to have the names of the text and of the operators: the calls put them there.
+-- Names are their numbers in a list of names. The list has to have the names of the text and of the operators: the
+-- calls put them there.
 --
--- A text is read clause by clause. From the tokens that are left, the grammar reads the first clause by the operators in force, up to
--- its End, or finds the first fault; `IsVerdict` of prolog_grammar says which. A lexical fault stands after the last token: it counts
--- where the clause's tokens before it can go on. A clause `:- op(..)` changes the operators for the clauses after it.
+-- A text is read clause by clause. From the tokens that are left, the grammar reads the first clause by the operators
+-- in force, up to its End, or finds the first fault; `IsVerdict` of prolog_grammar says which. A lexical fault stands
+-- after the last token: it counts where the clause's tokens before it can go on. A clause `:- op(..)` changes the
+-- operators for the clauses after it.
 --
--- To believe: all of this file, and below it Symbols.antt, Directive.antt, Table.antt; the tokens of a text, `Lexes` of prolog_tokens;
--- and `IsVerdict` of prolog_grammar.
+-- To believe: all of this file, and below it Symbols.antt, Directive.antt, Table.antt; the tokens of a text, `Lexes` of
+-- prolog_tokens; and `IsVerdict` of prolog_grammar.
 -- Source: ISO/IEC 13211-1:1995, 6.2 (texts), in this project's profile.
 use Rattle.std.specs.Prelude.{◌≡◌, ℕ, ◌-◌, ◌<◌, ◌≤◌, List, [], ◌∷◌, ◌++◌, length, take, drop, Option, Some, None, Result, Ok, Err}
 use Rattle.prolog_tokens.specs.Stream.{Lexes}
@@ -35,7 +37,8 @@ Fault = ReadKind × ℕ
 abbrev pub Answer : Type 0
 Answer = Result (List Clause × Table) Fault
 
--- where nothing more is expected: the first of these tokens, or a lexical fault after the last token, or the end of the text
+-- where nothing more is expected: the first of these tokens, or a lexical fault after the last token, or the end of the
+-- text
 abbrev pub fault_at : ℕ → Option LexFault → List TextToken → Fault
 fault_at size fault (t ∷ ts) = (Unexpected, t.start)
 fault_at size (Some f) [] = (Lex f.kind, f.at)

@@ -1,5 +1,6 @@
 -- Private.
--- The machine over the tokens of a text. Nothing here has to be believed: the laws say that it answers what Reading.antt says.
+-- The machine over the tokens of a text. Nothing here has to be believed: the laws say that it answers what
+-- Reading.antt says.
 use Rattle.std.specs.Prelude.{◌≡◌, ℕ, List, [], ◌∷◌, ◌++◌, length, Option, Some, None, Result, Ok, Err, Bool, true, false}
 use Rattle.prolog_tokens.specs.Stream.{Lexes}
 use Rattle.prolog_tokens.specs.Cursor.{Cursor}

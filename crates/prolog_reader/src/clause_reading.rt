@@ -32,8 +32,8 @@ pub enum Found {
     Refused { kind: ReadKind, at: u32 },
 }
 
-/// A clause that is being read: the text, the parser, the variables so far, the token at hand and the one before it, and whether the
-/// clause is a query, which ends also where the text does.
+/// A clause that is being read: the text, the parser, the variables so far, the token at hand and the one before it,
+/// and whether the clause is a query, which ends also where the text does.
 pub struct ClauseReader<'a> {
     text: &'a [u8],
     parser: Parser<'a>,
@@ -103,8 +103,8 @@ fn end_kind(refusal: Refusal) -> ReadKind
     }
 }
 
-/// A clause that is to be read: the text, the operators in force, the names that the syntax makes terms of, the first token, and whether
-/// the clause is a query.
+/// A clause that is to be read: the text, the operators in force, the names that the syntax makes terms of, the first
+/// token, and whether the clause is a query.
 #[derive(Clone, Copy)]
 pub struct ClauseStart<'a> {
     pub text: &'a [u8],
@@ -158,7 +158,8 @@ pub fn read_clause(
 }
 
 impl ClauseReader<'_> {
-    /// Reads the clause from the token at hand on, or says why there is none. After an error nothing is said of the reader.
+    /// Reads the clause from the token at hand on, or says why there is none. After an error nothing is said of the
+    /// reader.
     fn read(&mut self, lexer: &mut Lexer, names: &mut Names) -> Result<Found, AllocError>
         requires begins { Begins lexer.old names.old self.old }
         ensures found { IfOk result

@@ -11,7 +11,8 @@ pub enum ReadKind {
     Lex(LexKind),
     /// With this token the tokens of the clause can no longer become one, or the text ends within a clause.
     Unexpected,
-    /// An operand begins under more than 1,000 openers, or an infix operator stands after a term of a depth of 1,000 or more.
+    /// An operand begins under more than 1,000 openers, or an infix operator stands after a term of a depth of 1,000 or
+    /// more.
     Deep,
     /// The text has more than 1,048,576 bytes.
     Long,

@@ -10,8 +10,8 @@ ghost use Rattle.prolog_reader.specs.Completion.{EndClauses, IsCompleted, rules_
 ghost use Rattle.prolog_reader.specs.Reading.{before_rest};
 ghost use Rattle.prolog_operators.specs.Table.{Table};
 
-/// Where some further tokens complete a clause that tokens of a text begin, some bytes do. So some bytes complete what stands before the
-/// first unexpected token, and what ends with the first token that is too deep.
+/// Where some further tokens complete a clause that tokens of a text begin, some bytes do. So some bytes complete what
+/// stands before the first unexpected token, and what ends with the first token that is too deep.
 pub fn bytes_complete_clauses()
     ensures each { (names : List (List ℕ)) (table : Table) (text : List ℕ)
         (earlier begun later : List TextToken) (fault : Option LexFault)

@@ -1,8 +1,9 @@
 //! Reads program texts and queries into terms with places, by operators that a text may change.
 //!
 //! A `ClauseReader` feeds the tokens of a clause to the parser of `term_parser`. What tokens read as is the grammar of
-//! `prolog_grammar`, and what a text reads as is defined in `specs/Reading.antt`. Depends on `cti_terms` for names, `prolog_operators`
-//! for operators, `prolog_tokens` for tokens, `prolog_grammar` for the grammar and its laws, and `thiserror`.
+//! `prolog_grammar`, and what a text reads as is defined in `specs/Reading.antt`. Depends on `cti_terms` for names,
+//! `prolog_operators` for operators, `prolog_tokens` for tokens, `prolog_grammar` for the grammar and its laws, and
+//! `thiserror`.
 #![tactic(auto)]
 
 mod clause_reading;

@@ -29,10 +29,11 @@ use prolog_terms::{Known, ReadClause, ReadClauses};
 use prolog_tokens::Lexer;
 use std::alloc::{AllocError, Global};
 
-/// Reads all clauses of a text of at most 1,048,576 bytes. A clause `:- op(P,T,N)` sets operators for the clauses after it.
+/// Reads all clauses of a text of at most 1,048,576 bytes. A clause `:- op(P,T,N)` sets operators for the clauses after
+/// it.
 ///
-/// A place counts bytes from 0. Names that the text adds stay in `names`, also after a refusal. That memory runs out only
-/// where a growth was refused is said by no clause.
+/// A place counts bytes from 0. Names that the text adds stay in `names`, also after a refusal. That memory runs out
+/// only where a growth was refused is said by no clause.
 ///
 /// Source: ISO/IEC 13211-1:1995, 6.2, in this project's profile.
 pub fn read_text(alloc: Global, text: &[u8], names: &mut Names) -> Result<ReadText, ReadFault>
@@ -43,7 +44,8 @@ pub fn read_text(alloc: Global, text: &[u8], names: &mut Names) -> Result<ReadTe
         (λ read. AnswersText names.new text.now (Ok (read.clauses, table_of read.ops))) }
     ensures refused { IfErr result (λ fault. RefusesText names.new text.now fault) }
 
-    // No text has two answers: what it reads as by the names is what is read, or it is refused as it has to be, unless memory runs out.
+    // No text has two answers: what it reads as by the names is what is read, or it is refused as it has to be, unless
+    // memory runs out.
     ensures only { (later : List (List ℕ)) (answer : Answer) → Extends names.new later
         → IsTextAnswer later text.now answer → SaysText result answer }
 
@@ -176,7 +178,8 @@ pub fn read_query(
     ensures only { (later : List (List ℕ)) (answer : Result Clause Fault) → Extends names.new later
         → IsQueryAnswer later (table_of ops.now) text.now answer → SaysQuery result answer }
 
-    // The names are those that the query gives, and after a refusal the first of them. Earlier names keep their numbers.
+    // The names are those that the query gives, and after a refusal the first of them. Earlier names keep their
+    // numbers.
     ensures names { IfOk result (λ clause. AreNamesOf query_own names.old text.now names.new) }
     ensures begin { IfErr result
         (λ fault. BeginNames query_own names.old text.now names.new fault) }
@@ -285,8 +288,9 @@ fn read_term(
     }
 }
 
-/// By the same names a text has exactly one answer, and by the same names and operators a query has: the clauses that it reads as, or its
-/// first fault. So no text is read as two programs, and none is both read and refused. And a text gives one list of names.
+/// By the same names a text has exactly one answer, and by the same names and operators a query has: the clauses that
+/// it reads as, or its first fault. So no text is read as two programs, and none is both read and refused. And a text
+/// gives one list of names.
 pub fn one_answer()
     ensures text { (names : List (List ℕ)) (text : List ℕ) (answer other : Answer)
         → IsTextAnswer names text answer → IsTextAnswer names text other → answer ≡ other }

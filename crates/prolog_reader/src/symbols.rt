@@ -113,7 +113,8 @@ fn integer(at: u32, value: i128, joined: bool) -> Symbol
     }
 }
 
-/// A token as the machine takes it, after the variables and the token before it. After an error nothing is said of the variables.
+/// A token as the machine takes it, after the variables and the token before it. After an error nothing is said of the
+/// variables.
 #[tactic(auto, using(crate::proofs::NamingLemmas::names_none))]
 pub fn next_symbol(
     alloc: Global,

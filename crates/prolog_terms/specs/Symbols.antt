@@ -1,8 +1,9 @@
 -- To believe, for reading.
 -- The tokens of a text as the grammar sees them: names and variables by number, with what touches what.
 --
--- A name's number is that of its text in a list of names. The variables of a clause are numbered from 0 in the order of their first
--- occurrence, and each `_` is another one. An integer directly after the unquoted name `-` is `Joined` to it.
+-- A name's number is that of its text in a list of names. The variables of a clause are numbered from 0 in the order of
+-- their first occurrence, and each `_` is another one. An integer directly after the unquoted name `-` is `Joined` to
+-- it.
 --
 -- To believe: all of this file.
 -- Source: ISO/IEC 13211-1:1995, 6.4 (tokens) and 6.3.4.1 (negative numerals), in this project's profile.
@@ -16,7 +17,8 @@ use Rattle.prolog_tokens.specs.declared.token.TokenKind.TheVariants as kind
 use Rattle.prolog_tokens.specs.declared.token.Token.{Token as TextToken}
 use Rattle.prolog_grammar.specs.Token.{variable, integer, text as text_value, Token, Leaf, Joined, Name, Paren, Touching, ParenEnd, Bracket, BracketEnd, Brace, BraceEnd, Comma, Bar, End}
 
--- the variables of a clause so far: the names of those that have one, the number of each of these, and how many variables there are
+-- the variables of a clause so far: the names of those that have one, the number of each of these, and how many
+-- variables there are
 pub record Seen : Type 0 where
   pub named : List (List ℕ)
   pub numbers : List ℕ

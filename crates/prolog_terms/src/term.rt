@@ -6,8 +6,8 @@ use cti_terms::Name;
 #[cycle(read_terms)]
 #[derive(Drop)]
 pub enum ReadShape {
-    /// A variable, by its number in its clause. Variables are numbered from 0 in the order of their first occurrence, and
-    /// each `_` is a variable of its own.
+    /// A variable, by its number in its clause. Variables are numbered from 0 in the order of their first occurrence,
+    /// and each `_` is a variable of its own.
     Var(u32),
     /// An integer of absolute value at most 2^127 - 1.
     Int(i128),
@@ -15,7 +15,8 @@ pub enum ReadShape {
     Fun(Name, Vec<ReadTerm>),
 }
 
-/// A term and its place, which is the first byte of its first token, counted from 0. A parenthesis around a term is one of its tokens.
+/// A term and its place, which is the first byte of its first token, counted from 0. A parenthesis around a term is one
+/// of its tokens.
 #[cycle(read_terms)]
 #[derive(Drop)]
 pub struct ReadTerm {

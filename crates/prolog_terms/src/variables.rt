@@ -7,8 +7,8 @@ ghost use Rattle.prolog_terms.specs.Numbering.{seen_of, AreNumbered};
 use cti_terms::Names;
 use std::alloc::{AllocError, Global};
 
-/// The variables of the clause that is under way: the names of those that have one, the number of each of these, and how many
-/// variables there are with each `_`.
+/// The variables of the clause that is under way: the names of those that have one, the number of each of these, and
+/// how many variables there are with each `_`.
 pub struct Variables {
     names: Names,
     numbers: Vec<u32>,
@@ -52,8 +52,8 @@ impl Variables {
         self.count
     }
 
-    /// The number of a variable: its own where it was there, or the next. The variable `_` is another one each time. After an error
-    /// nothing is said of the variables.
+    /// The number of a variable: its own where it was there, or the next. The variable `_` is another one each time.
+    /// After an error nothing is said of the variables.
     pub fn number(&mut self, name: &[u8]) -> Result<u32, AllocError>
         requires numbered { AreNumbered self.old }
         requires few { (seen_of self.old).count < 2 ^ 32 - 1 }

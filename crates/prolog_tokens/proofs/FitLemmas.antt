@@ -1,5 +1,5 @@
--- A text of a form at the front is no longer than the computed token, which is then no bad first byte; and it is of the same
--- kind where it is as long.
+-- A text of a form at the front is no longer than the computed token, which is then no bad first byte; and it is of the
+-- same kind where it is as long.
 use Rattle.std.proofs.Common.{◌≡◌, ◌≢◌, ℕ, ◌+◌, ◌<◌, ◌≤◌, ◌^◌, ◌==◌, ◌&&◌, nat_lt, Bool, true, false, List, [], ◌∷◌, ◌++◌, length, take, drop, pos, Ok, Err, inl, inr, ⊎_elim, refl, sym, ◌∙◌, ap, subst, append_assoc, length-append, arith, if◌then◌else◌}
 use Rattle.std.specs.Char.{is_digit as is_digit_in}
 use Rattle.std.proofs.lemmas.Bool.{eqb-true, ne_eqb}
@@ -25,7 +25,8 @@ use Rattle.prolog_tokens.proofs.ClassLemmas.{variable_not_small, digit_not_small
 use Rattle.prolog_tokens.proofs.SpelledLemmas.{spelled_piece}
 use Rattle.prolog_tokens.proofs.BodyLemmas.{item_closed}
 
--- the answer is at least so long, and of that kind where it is just so long; or it is a fault that is not a bad first byte
+-- the answer is at least so long, and of that kind where it is just so long; or it is a fault that is not a bad first
+-- byte
 abbrev pub IsAtLeast : TokenKind → ℕ → Answer → Type 0
 IsAtLeast of n (Ok t) = (n ≤ t.1) × (n ≡ t.1 → t.0 ≡ of)
 IsAtLeast of n (Err fault) = fault ≢ fault_at BadByte 0

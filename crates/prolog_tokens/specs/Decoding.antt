@@ -16,7 +16,8 @@ IsTokenOf text t = (at : ℕ) × (next_of (record { text = text; at = at }) ≡ 
 abbrev pub bytes_of : List ℕ → Token → List ℕ
 bytes_of text t = take (t.end - t.start) (drop t.start text)
 
--- what a token with these bytes stands for, in UTF-8: a name for itself, an item for its characters, and another token for none
+-- what a token with these bytes stands for, in UTF-8: a name for itself, an item for its characters, and another token
+-- for none
 abbrev pub meaning_of : TokenKind → List ℕ → List ℕ
 meaning_of Name bytes = bytes
 meaning_of Quoted bytes = encode_utf8_all (item_characters 39 0 (drop 1 bytes))

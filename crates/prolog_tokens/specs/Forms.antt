@@ -29,8 +29,8 @@ IsRun p q (b ∷ bs) = (p b ≡ true) × Each q bs
 abbrev pub AreDigits : ℕ → List ℕ → Type 0
 AreDigits base text = IsRun (λ b. is_digit_in b base) (λ b. is_digit_in b base) text
 
--- The text spells the character c between quotes of this kind: by the quote doubled; by itself; by a backslash and one letter
--- or mark; or by its number between `\x` and a backslash, or in octal digits between two backslashes.
+-- The text spells the character c between quotes of this kind: by the quote doubled; by itself; by a backslash and one
+-- letter or mark; or by its number between `\x` and a backslash, or in octal digits between two backslashes.
 pub data SpellsCharacter (quote c : ℕ) (text : List ℕ) : Type 0 where
   doubled : c ≡ quote → text ≡ quote ∷ quote ∷ [] → SpellsCharacter quote c text
   itself : IsScalar c → is_quotable c ≡ true → c ≢ quote → c ≢ 92 → text ≡ encode_utf8 c → SpellsCharacter quote c text
@@ -116,7 +116,8 @@ abbrev pub IsLineEnd : List ℕ → Type 0
 IsLineEnd [] = Unit {0}
 IsLineEnd (b ∷ bs) = b ≡ 10
 
--- a byte that is not a character between quotes of this kind: no quote, no backslash, no newline, and nothing is spelled there
+-- a byte that is not a character between quotes of this kind: no quote, no backslash, no newline, and nothing is
+-- spelled there
 abbrev pub IsNoCharacter : ℕ → List ℕ → Type 0
 IsNoCharacter quote [] = ⊥
 IsNoCharacter quote (b ∷ bs) = (b ≢ quote) × (b ≢ 92) × (b ≢ 10) × SpellsNone quote (b ∷ bs)

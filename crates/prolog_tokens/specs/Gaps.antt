@@ -25,7 +25,8 @@ HasNoEnd bytes = (before after : List ℕ) → bytes ≡ before ++ 42 ∷ 47 ∷
 abbrev pub EndsFirst : List ℕ → Type 0
 EndsFirst body = (before after : List ℕ) → body ++ 42 ∷ 47 ∷ [] ≡ before ++ 42 ∷ 47 ∷ after → length body ≤ length before
 
--- a byte of layout, a comment from `%` to the end of the line, or one from `/*` to the next `*/`, where those bytes follow
+-- a byte of layout, a comment from `%` to the end of the line, or one from `/*` to the next `*/`, where those bytes
+-- follow
 pub data IsSpace (text after : List ℕ) : Type 0 where
   layout : (b : ℕ) → is_layout b ≡ true → text ≡ b ∷ [] → IsSpace text after
   line : (body : List ℕ) → IsLine body after → IsUtf8 body → text ≡ 37 ∷ body → IsSpace text after

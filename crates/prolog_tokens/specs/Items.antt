@@ -10,7 +10,8 @@ use Rattle.prolog_tokens.specs.declared.piece.Piece.TheVariants.{Character, Drop
 use Rattle.prolog_tokens.specs.declared.fault.LexKind.TheVariants.{Unclosed}
 use Rattle.prolog_tokens.specs.declared.fault.LexFault.{LexFault}
 
--- how long an item is from a piece on, or where its first fault has its cause: what follows goes on after the piece's other bytes
+-- how long an item is from a piece on, or where its first fault has its cause: what follows goes on after the piece's
+-- other bytes
 abbrev pub len_past : Piece → (ℕ → Result ℕ LexFault) → Result ℕ LexFault
 len_past (Character c n) rest = further 1 (rest (n - 1))
 len_past Dropped rest = further 1 (rest 1)

@@ -10,7 +10,8 @@ use Rattle.prolog_tokens.specs.Places.{fault_at, further}
 use Rattle.prolog_tokens.specs.declared.fault.LexKind.TheVariants.{BadByte, Unclosed}
 use Rattle.prolog_tokens.specs.declared.fault.LexFault.{LexFault}
 
--- the answer for a comment with this body after the given number of bytes: where the body is not UTF-8, the fault at its first byte that is not
+-- the answer for a comment with this body after the given number of bytes: where the body is not UTF-8, the fault at
+-- its first byte that is not
 abbrev pub with_body : ℕ → List ℕ → Result ℕ LexFault → Result ℕ LexFault
 with_body before body answer = if utf8_valid_len body == length body then answer else Err (fault_at BadByte (before + utf8_valid_len body))
 

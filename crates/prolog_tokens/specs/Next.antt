@@ -1,8 +1,8 @@
 -- Private.
 -- The next token of a text from a place on, where none is left, and where there is a fault.
 --
--- To believe: `IsNextToken`, `HasFault`, over the words of Forms.antt and Gaps.antt. That the computed `next_of` says the same
--- is the law `longest_match`.
+-- To believe: `IsNextToken`, `HasFault`, over the words of Forms.antt and Gaps.antt. That the computed `next_of` says
+-- the same is the law `longest_match`.
 use Rattle.std.specs.Prelude.{◌≡◌, ℕ, ◌+◌, false, List, [], ◌++◌, length, drop, Option, Some, None, Result, Ok, Err}
 use Rattle.prolog_tokens.specs.Places.{moved}
 use Rattle.prolog_tokens.specs.Forms.{IsLongest, IsFault}

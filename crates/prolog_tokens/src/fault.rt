@@ -3,11 +3,11 @@
 /// Why no token could be read.
 #[derive(Clone, Copy, Debug, PartialEq, Eq)]
 pub enum LexKind {
-    /// A byte begins no token, or a byte in a quoted item or after `0'` is not a character, or a byte in a comment is not UTF-8.
-    /// The place is that byte.
+    /// A byte begins no token, or a byte in a quoted item or after `0'` is not a character, or a byte in a comment is
+    /// not UTF-8. The place is that byte.
     BadByte,
-    /// A quoted item meets a newline or the end of the text before its end, or a `/*` comment has no end. The place is its
-    /// first byte.
+    /// A quoted item meets a newline or the end of the text before its end, or a `/*` comment has no end. The place is
+    /// its first byte.
     Unclosed,
     /// A backslash in a quoted item or after `0'` begins no escape. The place is the token's first byte.
     BadEscape,

@@ -140,9 +140,9 @@ fn mark(byte: u8) -> Result<(TokenKind, usize), LexFault>
     Ok((kind, 1))
 }
 
-/// What `Lexer::next` computes is what the forms of tokens, layout, comments and faults say: each fault exactly where its
-/// condition holds; nothing exactly where only layout and comments are left; and else the longest text of a form after all
-/// layout and comments, which is one token.
+/// What `Lexer::next` computes is what the forms of tokens, layout, comments and faults say: each fault exactly where
+/// its condition holds; nothing exactly where only layout and comments are left; and else the longest text of a form
+/// after all layout and comments, which is one token.
 pub fn longest_match()
     ensures next { (c : Cursor) → c.at ≤ length c.text → IsNext c (next_of c) }
     ensures none { (c : Cursor) → c.at ≤ length c.text → IsGap (drop c.at c.text) [] → next_of c ≡ Ok None }

@@ -1,6 +1,7 @@
 //! Tokens of program texts: each is the longest text of a token form at its place.
 //!
-//! Names, variables, integers, quoted items, marks and the end of a clause, with layout and comments between them. Stands on
+//! Names, variables, integers, quoted items, marks and the end of a clause, with layout and comments between them.
+//! Stands on
 //! `std` alone.
 #![tactic(auto)]
 

@@ -11,12 +11,12 @@ ghost use Rattle.prolog_tokens.specs.Spelling.{is_plain_word, is_empty_list, spe
 use crate::bytes::{is_small, word_len};
 use std::alloc::AllocError;
 
-/// Appends the spelling of a name: plain where it is `[]` or a small letter with letters, digits and underscores, and else
-/// in single quotes.
+/// Appends the spelling of a name: plain where it is `[]` or a small letter with letters, digits and underscores, and
+/// else in single quotes.
 ///
-/// Between quotes stand `\'`, `\\` and `\n`, and `\xH\` with hexadecimal digits for any other byte below 32 and for 127;
-/// each other byte stands for itself. Where memory runs out, the bytes that were there are followed by a prefix of the new
-/// ones.
+/// Between quotes stand `\'`, `\\` and `\n`, and `\xH\` with hexadecimal digits for any other byte below 32 and for
+/// 127; each other byte stands for itself. Where memory runs out, the bytes that were there are followed by a prefix of
+/// the new ones.
 #[tactic(auto, unfolding(crate::specs::Spelling::spelling))]
 pub fn quote(text: &[u8], out: &mut Vec<u8>) -> Result<(), AllocError>
     ensures ok { OnOk result (out.new.items ≡ out.old.items ++ spelling text.now) }
@@ -87,8 +87,9 @@ fn digit(value: u8) -> u8
     }
 }
 
-/// What `quote` spells is read back, in any text, where no letter, digit, underscore or single quote follows: for a name in
-/// UTF-8 the next token is the whole spelling, and it stands for the name. The name `[]` is read back as its two tokens.
+/// What `quote` spells is read back, in any text, where no letter, digit, underscore or single quote follows: for a
+/// name in UTF-8 the next token is the whole spelling, and it stands for the name. The name `[]` is read back as its
+/// two tokens.
 pub fn quoted_names_are_read_back()
     ensures name { (c : Cursor) (name after : List ℕ) → IsUtf8 name → is_empty_list name ≡ false
         → lengthens_name after ≡ false

@@ -6,7 +6,8 @@ use Rattle.linear_rows.specs.Rows.{HoldsOn}
 use Rattle.redundant_rows.specs.Choosing.{AllHoldOn}
 use Rattle.termination_model.specs.chains.ChainRows.{HasSublist}
 
--- true for a row that holds on rows of n coefficients each, and false for one that fails at a point of them or has a blown test there
+-- true for a row that holds on rows of n coefficients each, and false for one that fails at a point of them or has a
+-- blown test there
 abbrev pub Decides : ℕ → List (List ℤ) → List ℤ → Bool → Type 0
 Decides n rows row true = HoldsOn (suc n) rows row
 Decides n rows row false = Fails n rows row ⊎ TestIsBlown n rows row

@@ -1,7 +1,7 @@
 //! Points one step beside a point inside of rows.
 //!
-//! Of a row that has the value 0 inside, as both rows of an equation have, most often such a point shows that the others do
-//! not imply it. It is tested before anybody relies on it.
+//! Of a row that has the value 0 inside, as both rows of an equation have, most often such a point shows that the
+//! others do not imply it. It is tested before anybody relies on it.
 
 ghost use Rattle.std.specs.Prelude.{◌≡◌, length, IfOk, IfSome};
 ghost use Rattle.linear_rows.specs.Plain.{plain_row, plain_rows, HaveWidth};
@@ -54,8 +54,8 @@ fn along_columns(
     Ok(None)
 }
 
-/// The point one step beside another one along a column, on the side where a row falls, if the row has the column and the
-/// point is one of naturals.
+/// The point one step beside another one along a column, on the side where a row falls, if the row has the column and
+/// the point is one of naturals.
 fn stepped(
     alloc: Global,
     row: &Row,

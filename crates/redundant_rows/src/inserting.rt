@@ -16,8 +16,8 @@ use std::alloc::{AllocError, Global};
 /// Rows of numbers of so few bits come first: those that others imply most often have greater ones.
 const BITS: [u32; 5] = [24, 32, 48, 64, 128];
 
-/// The rows without those that rows before them imply, where rows with fewer coefficients other than 0 come first, and of
-/// them those of smaller numbers.
+/// The rows without those that rows before them imply, where rows with fewer coefficients other than 0 come first, and
+/// of them those of smaller numbers.
 ///
 /// Those that are left stand in the order of `rows`, and what `hints` has of them in the same order.
 pub(crate) fn inserted(alloc: Global, rows: &Rows, hints: &mut Hints) -> Result<Rows, AllocError>

@@ -1,7 +1,7 @@
 //! The row that is met first on the way from a point inside of rows to one outside.
 //!
-//! A row that is met alone is needed: it alone fails at a point just behind the place where it is met. What is found here
-//! is a hint, which is tested before anybody relies on it.
+//! A row that is met alone is needed: it alone fails at a point just behind the place where it is met. What is found
+//! here is a hint, which is tested before anybody relies on it.
 
 ghost use Rattle.std.specs.Prelude.{◌≡◌, length};
 
@@ -160,8 +160,8 @@ impl Way {
     }
 }
 
-/// The rows that are met first and second, of those that wait. None of those that were kept is met before the point outside,
-/// but for what it was shortened.
+/// The rows that are met first and second, of those that wait. None of those that were kept is met before the point
+/// outside, but for what it was shortened.
 fn walked(rows: &Rows, marks: &[Mark], inside: &Point, outside: &Point) -> Option<Way>
     requires marks { length marks.now ≡ length rows.now.list }
 {

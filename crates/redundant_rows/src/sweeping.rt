@@ -63,7 +63,8 @@ struct Swept {
     fewer: bool,
 }
 
-/// Takes the row at a place out where it holds on the others. It is not tested where a point is known at which it alone fails.
+/// Takes the row at a place out where it holds on the others. It is not tested where a point is known at which it alone
+/// fails.
 fn try_row(alloc: Global, rows: Rows, place: usize, hints: &Hints) -> Result<Swept, AllocError>
     requires place { place < length rows.list }
     requires width { HaveWidth rows.width rows.list }

@@ -8,12 +8,12 @@ use crate::multiple::{is_natural, multiple};
 use linear_rows::{Row, RowList, Rows};
 use std::alloc::{AllocError, Global};
 
-/// The most rows of which each is compared with each other one. Of more, most are implied by a few, and the tests that come
-/// after find them sooner.
+/// The most rows of which each is compared with each other one. Of more, most are implied by a few, and the tests that
+/// come after find them sooner.
 const MOST_COMPARED: usize = 64;
 
-/// The rows without those that hold everywhere, and those that are at least a multiple of one other row. Many rows are left
-/// as they are.
+/// The rows without those that hold everywhere, and those that are at least a multiple of one other row. Many rows are
+/// left as they are.
 pub(crate) fn undominated(alloc: Global, rows: Rows) -> Result<Rows, AllocError>
     requires { HaveWidth rows.width rows.list }
     ensures width { IfOk result (λ r. r.width ≡ rows.width) }

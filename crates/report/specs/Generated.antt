@@ -1,6 +1,6 @@
 -- To believe, for the command.
--- The text of a program of the given number of predicates, for trying the analysis on larger programs. Predicate k is named p
--- with the number k.
+-- The text of a program of the given number of predicates, for trying the analysis on larger programs. Predicate k is
+-- named p with the number k.
 --
 -- Predicates come by threes: one appends lists, the next reverses a list by the one before, and the third reverses it
 -- twice.

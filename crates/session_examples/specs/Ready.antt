@@ -6,7 +6,8 @@ use Rattle.edit_texts.specs.Snapshot.{Snapshot, HasProgram, nodes_in}
 use Rattle.prolog_reader.specs.Fit.{IsFit}
 use Rattle.prolog_terms.specs.Clauses.{Clause}
 
--- the session has the program of its clauses, and those that are left are fit, with no more nodes in all than a text has
+-- the session has the program of its clauses, and those that are left are fit, with no more nodes in all than a text
+-- has
 pub record IsReady (names : List (List ℕ)) (s : Snapshot) (left : List Clause) : Type 0 where
   pub program : HasProgram names s
   pub room : length names < 2 ^ 32 - 3

@@ -25,7 +25,8 @@ pub(crate) enum Step {
     Remove(u32),
 }
 
-/// A session with its names, and the clauses of a text that were not put in yet. Contracts see how many of them there are.
+/// A session with its names, and the clauses of a text that were not put in yet. Contracts see how many of them there
+/// are.
 pub(crate) struct Desk {
     session: Session,
     names: Names,

@@ -139,7 +139,8 @@ fn without_first(
     plays(alloc, text.as_str(), 5, rows.as_slice(), size)
 }
 
-/// Without the first clause `p` stands before `q`. In the second program the two mappings change their places with them.
+/// Without the first clause `p` stands before `q`. In the second program the two mappings change their places with
+/// them.
 #[test]
 fn predicates_change_their_order(rt: HostRuntime) -> Result<(), Fail> {
     let alloc = rt.alloc();
@@ -188,7 +189,8 @@ fn clauses_with_faults(rt: HostRuntime) -> Result<(), Fail> {
     Ok(())
 }
 
-/// All the clauses that are left are added in one edit, however many stand there; then there are none, and nothing changes.
+/// All the clauses that are left are added in one edit, however many stand there; then there are none, and nothing
+/// changes.
 #[test]
 fn clauses_in_one_edit(rt: HostRuntime) -> Result<(), Fail> {
     let alloc = rt.alloc();

@@ -1,10 +1,10 @@
 //! A basis of the cone of rows, by its inverse.
 //!
 //! A row of d numbers, the constant first, holds wherever rows hold if it is in their cone: if it is a sum of natural
-//! multiples of these rows and of the d units, each of which is 1 in one column and 0 in the others. A basis has d members,
-//! which are rows or units. Its inverse is d times d numbers and a determinant, which is above 0: a row of the inverse
-//! times the member of its place is the determinant, and times each other member 0. So the inverse's rows times a row are
-//! that row's coordinates over the determinant.
+//! multiples of these rows and of the d units, each of which is 1 in one column and 0 in the others. A basis has d
+//! members, which are rows or units. Its inverse is d times d numbers and a determinant, which is above 0: a row of the
+//! inverse times the member of its place is the determinant, and times each other member 0. So the inverse's rows times
+//! a row are that row's coordinates over the determinant.
 //!
 //! Source: the numbers of an inverse over one determinant as in Edmonds 1967.
 
@@ -66,7 +66,8 @@ impl Drop for Basis {
 }
 
 impl Basis {
-    /// A basis for rows of a width, and a point of these rows if one is known. It takes no memory before the first test.
+    /// A basis for rows of a width, and a point of these rows if one is known. It takes no memory before the first
+    /// test.
     pub fn new(alloc: Global, width: u32, inside: Option<Point>) -> Result<Basis, AllocError> {
         Ok(Basis {
             columns: width as usize + 1,
@@ -207,8 +208,8 @@ impl Basis {
         row.saturating_mul(self.columns).saturating_add(column)
     }
 
-    /// Puts the member whose coordinates were found last into a place where its coordinate is below 0. It answers whether
-    /// each number fits.
+    /// Puts the member whose coordinates were found last into a place where its coordinate is below 0. It answers
+    /// whether each number fits.
     pub fn pivot(&mut self, place: usize, member: Member) -> bool {
         let pivot = self.coordinate(place);
         if !pivot.is_negative() {

@@ -1,9 +1,9 @@
 //! The search whether a row is in the cone of rows.
 //!
-//! While a coordinate of the row is below 0, a row y of the inverse has products of at least 0 with all other members, and
-//! one below 0 with the tested row. If it has none below 0 with the units and the rows, it is a point at which the rows hold
-//! and the tested row fails, or a way along which they hold and it falls. Else one with which it has one takes the place
-//! of y's member. That is a step of the dual simplex method.
+//! While a coordinate of the row is below 0, a row y of the inverse has products of at least 0 with all other members,
+//! and one below 0 with the tested row. If it has none below 0 with the units and the rows, it is a point at which the
+//! rows hold and the tested row fails, or a way along which they hold and it falls. Else one with which it has one
+//! takes the place of y's member. That is a step of the dual simplex method.
 //!
 //! Source: the choice of the smallest index as in Bland 1977.
 
@@ -228,8 +228,8 @@ fn priced(
     }
 }
 
-/// The member whose product with a row of the inverse, over its greatest number, is least, or the first one with a product
-/// below 0, if there is one.
+/// The member whose product with a row of the inverse, over its greatest number, is least, or the first one with a
+/// product below 0, if there is one.
 fn least(
     rows: &Rows,
     y: &[Integer],

@@ -1,7 +1,7 @@
 //! The choice of a row that enters a basis, by prices in 128 bits.
 //!
-//! A price is the product of a row and a row of the inverse, over about the greatest number of the first. To form prices
-//! fast, the row of the inverse is shortened. So a price is a hint: whoever takes a row tests it.
+//! A price is the product of a row and a row of the inverse, over about the greatest number of the first. To form
+//! prices fast, the row of the inverse is shortened. So a price is a hint: whoever takes a row tests it.
 
 use crate::integers::{lowered, most_bits};
 use exact384::Integer;
@@ -39,8 +39,8 @@ impl Prices {
         }
     }
 
-    /// The place of a row of a price below 0, if one is found: the cheapest of those that are gone over at once, from the
-    /// one at `from` on, and around.
+    /// The place of a row of a price below 0, if one is found: the cheapest of those that are gone over at once, from
+    /// the one at `from` on, and around.
     pub fn cheapest(&self, rows: &Rows, from: usize) -> Option<usize> {
         let many = rows.list.len();
         let at_once = if many > FEW_ROWS { ROWS_AT_ONCE } else { many };

@@ -134,7 +134,8 @@ pub fn holds(alloc: Global, rows: &Rows, row: &Row) -> Result<Held, AllocError>
 
 /// Says whether rows imply a row, and begins at the basis where another search ended.
 ///
-/// What the search in the cone finds is tested in 768 bits. Where it finds nothing, it begins with the units the next time.
+/// What the search in the cone finds is tested in 768 bits. Where it finds nothing, it begins with the units the next
+/// time.
 pub fn implied(
     alloc: Global,
     rows: &Rows,

@@ -19,7 +19,8 @@ pub struct WideMultipliers {
 }
 
 impl WideMultipliers {
-    /// Whether these are seen to show a row: the multiplied rows sum to at most the row times the scale, in each column.
+    /// Whether these are seen to show a row: the multiplied rows sum to at most the row times the scale, in each
+    /// column.
     pub fn show(&self, alloc: Global, rows: &Rows, row: &Row) -> Result<bool, AllocError>
         requires rows { HaveWidth rows.now.width rows.now.list }
         requires row { length row.now.coeffs ≡ rows.now.width }
@@ -40,8 +41,8 @@ impl WideMultipliers {
         Ok(true)
     }
 
-    /// Whether the multiplied numbers of a column sum to at most that of a row, times the scale. Scale 0 stands for the row
-    /// that holds nowhere.
+    /// Whether the multiplied numbers of a column sum to at most that of a row, times the scale. Scale 0 stands for the
+    /// row that holds nowhere.
     fn show_column(&self, numbers: &[i128], row: &Row, place: usize) -> bool
         requires each { length numbers.now ≡ length self.now.list.items }
         ensures { result ≡ true → pos 0 ≤ℤ (goal_number (value_of self.now.scale) (plain_row row.now) place

@@ -1,5 +1,6 @@
 -- Private.
--- What an edit begins with: the rows, the proofs and the sets from before it, under the new numbers of predicates and clauses.
+-- What an edit begins with: the rows, the proofs and the sets from before it, under the new numbers of predicates and
+-- clauses.
 use Rattle.std.specs.Prelude.{◌≡◌, ◌⊎◌, ℕ, ◌-◌, ◌≤◌, List, slice_get, Option, Some}
 use Rattle.call_components.specs.Partition.{Partition, IsIn}
 use Rattle.cti_terms.specs.Listing.{Listing}

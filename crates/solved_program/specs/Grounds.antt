@@ -1,8 +1,8 @@
 -- Private.
 -- What is kept of a program's ground rows, and how far those of a program after an edit have come.
 --
--- Each component has its least rows above those of the predicates that it calls, in one family for the whole program. So it
--- is a fact of one component over the whole family.
+-- Each component has its least rows above those of the predicates that it calls, in one family for the whole program.
+-- So it is a fact of one component over the whole family.
 --
 -- To believe: `AreSolvedGrounds`, `SolvedGroundsAreLeast`.
 use Rattle.std.specs.Prelude.{◌≡◌, ◌<◌, ◌≤◌, ℕ, Bool, List, length, slice_get, Some}
@@ -43,8 +43,8 @@ pub record AreCarriedSets (e : Edit) (trees : List Rows) (old carried : List Dia
   pub sets_are : AreSets e.after.now.preds trees carried
   pub same : (q r : ℕ) (x : Pred) → slice_get e.before.now.preds q ≡ Some x → slice_get e.after.now.preds r ≡ Some x → slice_get carried r ≡ slice_get old q
 
--- The components below n have their least rows, and those of them that stand for old ones have kept their rows. Their members
--- have marks where their rows stayed. All later ones still have what they had before the edit.
+-- The components below n have their least rows, and those of them that stand for old ones have kept their rows. Their
+-- members have marks where their rows stayed. All later ones still have what they had before the edit.
 pub record AreGroundsTo (truth : (ℕ → Bool) → Tree → Bool) (e : Edit) (old carried : List Diagram) (n : ℕ) (trees : List Rows) (sets : List Diagram) (marks : List Bool) : Type 0 where
   pub sets_are : AreSets e.after.now.preds trees sets
   pub least : AreLeastTo truth e.after.now e.components.now n (family_of e.after.now.preds trees sets)

@@ -1,7 +1,8 @@
 -- Private.
 -- Which clauses of a program after an edit are those of the program before it.
 --
--- A clause is the same where its terms are, and where its predicates have the same names and arities. Clauses count from 1.
+-- A clause is the same where its terms are, and where its predicates have the same names and arities. Clauses count
+-- from 1.
 --
 -- To believe: `IsEdit`.
 use Rattle.std.specs.Prelude.{◌≡◌, ℕ, ◌-◌, ◌≤◌, List, length, slice_get, Option, Some}

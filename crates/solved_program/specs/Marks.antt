@@ -18,7 +18,8 @@ itself q = true
 abbrev pub StandsMarked : Edit → List Bool → ℕ → ℕ → Type 0
 StandsMarked e marks b c = StandsFor e.components_before.now e.components.now b c itself (is_marked marks) e.before.now e.after.now e.kept.now
 
--- of the members of components below n those have a mark whose value is that of the old predicate of their name and arity
+-- of the members of components below n those have a mark whose value is that of the old predicate of their name and
+-- arity
 pub record AreMarkedTo {X : Type 0} (e : Edit) (n : ℕ) (old now : ℕ → X) (marks : List Bool) : Type 0 where
   pub each : length marks ≡ length e.after.now.preds
   pub exact : (q r d : ℕ) (x : Pred) → slice_get e.before.now.preds q ≡ Some x → slice_get e.after.now.preds r ≡ Some x → IsIn e.components.now d r → d < n → (is_marked marks r ≡ true) ↔ (now r ≡ old q)

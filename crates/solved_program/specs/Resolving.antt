@@ -38,8 +38,8 @@ pub record AreSources (s : Sources) : Type 0 where
 abbrev pub Stands : Sources → List Rows → ℕ → ℕ → Type 0
 Stands s rows b c = StandsFor s.edit.now.components_before.now s.edit.now.components.now b c (rows_of s.old.now.sizes.rows) (rows_of rows) s.edit.now.before.now s.edit.now.after.now s.edit.now.kept.now
 
--- The components below n are solved, and those of them that stand for old ones have kept their rows. Their members have marks
--- where their rows stayed. All later ones still have what they had before the edit.
+-- The components below n are solved, and those of them that stand for old ones have kept their rows. Their members have
+-- marks where their rows stayed. All later ones still have what they had before the edit.
 pub record AreResolvedTo (speaks : List ℤ → Bool) (expression : ℕ → Tree → List ℤ) (s : Sources) (n : ℕ) (now : SolvedSizes) (marks : List Bool) : Type 0 where
   pub solved : AreSolvedTo speaks expression s.edit.now.after.now s.edit.now.components.now n now
   pub marked : AreMarkedTo s.edit.now n (rows_of s.old.now.sizes.rows) (rows_of now.sizes.rows) marks

@@ -1,8 +1,8 @@
 -- Private.
 -- What is kept of a program's size rows, and that it is right.
 --
--- Each component has its part of a legal chain above the last rows of the predicates that it calls, and its clauses have
--- their proofs. So a part is a fact of one component over whole tables.
+-- Each component has its part of a legal chain above the last rows of the predicates that it calls, and its clauses
+-- have their proofs. So a part is a fact of one component over whole tables.
 --
 -- To believe: `AreSolved`, `SolvedSizesAreProved`.
 use Rattle.std.specs.Prelude.{◌≡◌, ℕ, ℤ, Bool, List, length, map, slice_get, All, true, Some}

@@ -1,8 +1,8 @@
 -- Private.
 -- Where a component of a new program stands for one of the old program, and that it then keeps what was found of it.
 --
--- It stands where its clauses are the clauses of that one, all of them and in their order, and where what they call outside the
--- component has come out as it was. What has come out is one value for each predicate, as its size rows.
+-- It stands where its clauses are the clauses of that one, all of them and in their order, and where what they call
+-- outside the component has come out as it was. What has come out is one value for each predicate, as its size rows.
 --
 -- To believe: `StandsFor`, `KeepValues`.
 use Rattle.std.specs.Prelude.{◌≡◌, ℕ, ◌-◌, ◌<◌, ◌⊎◌, List, [], ◌∷◌, length, slice_get, Option, Some}

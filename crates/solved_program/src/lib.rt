@@ -11,8 +11,8 @@
 //! Terms are not compared: an edit says of each new clause which old clause it is, and components are compared by these
 //! numbers. A component without clauses is solved each time.
 //!
-//! `resolve_grounds` does the same with ground rows, in a table of diagrams that goes from one edit to the next. A program
-//! that was not there before is an edit of the empty program.
+//! `resolve_grounds` does the same with ground rows, in a table of diagrams that goes from one edit to the next. A
+//! program that was not there before is an edit of the empty program.
 //!
 //! `StandsFor` says when a component stands for an old one, over any value for each predicate, so that it serves other
 //! engines too. `stayed_rows` and `Sources::standing` decide it by the size rows that have come out.

@@ -86,8 +86,8 @@ fn has_stayed(edit: &Edit<'_>, before: &SizeRows, rows: &SizeRows, pred: PredId)
     }
 }
 
-/// For each predicate after an edit a mark, where it has the size rows that the one of its name and arity had. What mark a
-/// predicate has that was not there before is left open: no clause that was kept calls one.
+/// For each predicate after an edit a mark, where it has the size rows that the one of its name and arity had. What
+/// mark a predicate has that was not there before is left open: no clause that was kept calls one.
 pub fn stayed_rows(
     alloc: Global,
     edit: &Edit<'_>,

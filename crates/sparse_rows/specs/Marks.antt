@@ -1,5 +1,6 @@
 -- Private.
--- One number for the coefficients of a row, by which rows that do not agree are distinguished quickly. Nothing here has to be believed.
+-- One number for the coefficients of a row, by which rows that do not agree are distinguished quickly. Nothing here has
+-- to be believed.
 use Rattle.std.specs.Prelude.{◌≡◌, ℕ, zero, suc, ℤ, List, Bool, true, ◌+◌, ◌*◌, ◌%◌, slice_index_or, unsigned_abs}
 use Rattle.std.specs.List.{AllByRecursion}
 use Rattle.exact128.specs.Sums.{entry}

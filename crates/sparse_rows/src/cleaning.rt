@@ -1,4 +1,5 @@
-//! Rows that are kept: divided by what their numbers share, none that says nothing, and one for each list of coefficients.
+//! Rows that are kept: divided by what their numbers share, none that says nothing, and one for each list of
+//! coefficients.
 
 ghost use Rattle.std.specs.Prelude.{◌≡◌, OnOk, All};
 ghost use Rattle.exact128.specs.Fits.{Fits};

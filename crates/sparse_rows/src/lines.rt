@@ -14,8 +14,8 @@ use std::marker::Model;
 
 /// Rows, each seen as the list of its numbers.
 ///
-/// Each row has a mark, so that a row with given coefficients, or with their negations, is found without looking into most
-/// of the others.
+/// Each row has a mark, so that a row with given coefficients, or with their negations, is found without looking into
+/// most of the others.
 pub struct Lines {
     items: Vec<Line>,
     // The marks of the rows are those of the columns 1 to this one.
@@ -130,7 +130,8 @@ impl Lines {
         self.len()
     }
 
-    /// The place of the first row that is the one at place `i` negated in the columns below `many`, or the number of rows.
+    /// The place of the first row that is the one at place `i` negated in the columns below `many`, or the number of
+    /// rows.
     pub fn negation_of(&self, i: usize, many: usize) -> usize
         requires place { i < length self.now }
         requires fit { AllFit self.now }

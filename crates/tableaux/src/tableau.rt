@@ -1,21 +1,21 @@
 //! A tableau of rows, and its pivots.
 //!
 //! Each of the rows that are solved has a slack variable, which is its value: at least 0 where it holds. A tableau says
-//! what some variables, the basic ones, are by the others, which are free. In each of its rows the denominator times the
-//! basic variable is the sum of the row's numbers, each times the free variable of its column. Column 0 has the constants.
-//! At first the slack variables are basic and the denominators are 1. A pivot exchanges the basic variable of a row and
-//! the free variable of a column.
+//! what some variables, the basic ones, are by the others, which are free. In each of its rows the denominator times
+//! the basic variable is the sum of the row's numbers, each times the free variable of its column. Column 0 has the
+//! constants. At first the slack variables are basic and the denominators are 1. A pivot exchanges the basic variable
+//! of a row and the free variable of a column.
 //!
-//! All numbers are whole. Each row has a denominator of its own, which is above 0, so that a pivot changes only the rows
-//! that have its column, and most systems stay sparse. The numbers of a row have no divisor in common with its
+//! All numbers are whole. Each row has a denominator of its own, which is above 0, so that a pivot changes only the
+//! rows that have its column, and most systems stay sparse. The numbers of a row have no divisor in common with its
 //! denominator, which keeps them as small as determinants of the rows' numbers.
 //!
 //! The first pivots are chosen by the smallest index. Where they do not end soon, pivots are chosen that change few
 //! numbers, as a system of many rows stays sparse then; and in the end by the smallest index again, since no tableau
 //! comes twice by it.
 //!
-//! Source: integer pivoting as in Edmonds 1967, the choice of the smallest index as in Bland 1977, and the choice of few
-//! numbers in a row and in a column as in Markowitz 1957.
+//! Source: integer pivoting as in Edmonds 1967, the choice of the smallest index as in Bland 1977, and the choice of
+//! few numbers in a row and in a column as in Markowitz 1957.
 
 ghost use Rattle.std.specs.Prelude.{◌+◌, ◌<◌, ◌^◌, length};
 
@@ -223,8 +223,8 @@ impl Tableau {
         }
     }
 
-    /// The row, among those whose constant is below 0, of the first variable or with the fewest numbers. It is the number
-    /// of rows where there is none.
+    /// The row, among those whose constant is below 0, of the first variable or with the fewest numbers. It is the
+    /// number of rows where there is none.
     fn leaving(&self, choice: Choice) -> usize {
         let mut least = usize::MAX;
         let mut at = self.basic.len();
@@ -243,8 +243,8 @@ impl Tableau {
         at
     }
 
-    /// The column, among those whose variable raises a row's variable, of the first variable or with the fewest numbers.
-    /// It is the number of columns where there is none.
+    /// The column, among those whose variable raises a row's variable, of the first variable or with the fewest
+    /// numbers. It is the number of columns where there is none.
     fn entering(&self, row: usize, choice: Choice) -> usize {
         let mut least = usize::MAX;
         let mut at = self.columns;

@@ -94,8 +94,8 @@ applied_move p n op token = walk_apply most_openers (rules p) n.bound n.at n.nam
 abbrev pub atom_move : Parser → ℕ → Head → Symbol → Next Part
 atom_move p bound h token = walk_have most_openers (rules p) (frames p) bound ((rules p).atom h) 0 (token_of token)
 
--- the same where the name is a prefix operator, which can be applied or not, and the token is an infix operator alone, which a
--- parenthesis touches or not
+-- the same where the name is a prefix operator, which can be applied or not, and the token is an infix operator alone,
+-- which a parenthesis touches or not
 abbrev pub decided : Bool → Bool → Next Part → Next Part
 decided can true move = only_stuck move
 decided can false move = or_stuck can move

@@ -118,8 +118,8 @@ impl Parser<'_> {
         self.after_term(read.bound, part, 0, token)
     }
 
-    /// An infix operator alone after a name that is a prefix operator, which can be applied or not. The name is an atom then, unless
-    /// a parenthesis makes the infix operator begin an operand.
+    /// An infix operator alone after a name that is a prefix operator, which can be applied or not. The name is an atom
+    /// then, unless a parenthesis makes the infix operator begin an operand.
     fn decide(
         &mut self,
         read: NameRead,

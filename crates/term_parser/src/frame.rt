@@ -56,7 +56,8 @@ impl Open {
     }
 }
 
-/// What is open: an operator whose right side is under way, or an opening token. The bound is that of the term around it.
+/// What is open: an operator whose right side is under way, or an opening token. The bound is that of the term around
+/// it.
 #[derive(Drop)]
 pub enum Frame {
     Operator {

@@ -29,7 +29,8 @@ abbrev mutual
   cell_size d s (More h (More t (More u us))) = 0
 
 abbrev mutual
-  -- whether a term is true: whether v is true of the variable at the end of the list, if there is one. By a v that is false of T,
+  -- whether a term is true: whether v is true of the variable at the end of the list, if there is one. By a v that is
+  -- false of T,
   -- `[X|T]` is false; `[X,Y]` is true by each v
   pub list_truth : Option Name → (ℕ → Bool) → Tree → Bool
   list_truth d v (Variable x) = v x

@@ -61,7 +61,7 @@ joined_is : join_left 3 nil_rows (at_least ∷ sum_rows) ≡ joined
 unfolding dot blown_step step_fits crossings_fit crossed_fits solved_rows_fit step_fault crossed crossings solved_rows row_gcd gcd gcd_within
 joined_is = refl
 
--- ---- the first image: each row left is proved from the three that are listed, and each of those fails without the others
+-- ---- the first image: each row left is proved from the three listed ones, each of which fails without the others
 nil_part : HasSublist nil_left nil_rows
 nil_part = inr (tt, inl (tt, row (pos 0) (pos 0) (negsuc 0) (pos 1) ∷ row (pos 0) (pos 0) (pos 1) (negsuc 0) ∷ [], refl, inr (tt, inl (tt, row (pos 0) (pos 0) (pos 1) (negsuc 0) ∷ [], refl, inl (tt, [], refl, refl)))))
 

@@ -18,11 +18,15 @@ use Rattle.termination_model.specs.sizes.ShortSystems.{short_row}
 use Rattle.termination_model.specs.columns.Columns.{Valuation, counted, columns_of, numbers, AreColumns}
 use Rattle.termination_model.specs.columns.ColumnClaims.{Mapping, Measure, Claims, IsInductive, numbers_of, atom_row, system, level_row, difference, fall_row, RowHoldsOn, FallsOn, Descends, Serves}
 use Rattle.termination_model.specs.columns.ColumnRows.{lacks, or_empty, row_over, negative, least, least_over}
-use Rattle.termination_model.specs.columns.ColumnShort.{short_system, never, TargetProvable, head_row, SizesProved, FallsProved, DescendsProved, ServesProved, ProofsShow}
+use Rattle.termination_model.specs.columns.ColumnShort.{short_system, TargetProvable, head_row, SizesProved, FallsProved, DescendsProved, ServesProved, ProofsShow}
 use Rattle.termination_model.proofs.ColumnPoints.{point_length, atom_value, system_holds}
 use Rattle.termination_model.proofs.Facts.{each, both_each}
 use Rattle.termination_model.proofs.Proved.{provable_holds, length-added, length-added-le, length-replicate'}
-use Rattle.termination_model.proofs.SystemPoints.{Below, dot_zeros, to_all}
+use Rattle.termination_model.proofs.SystemPoints.{Below, to_all}
+use Rattle.linear_rows.proofs.Refutes.{length-zeros}
+use Rattle.termination_model.proofs.Entries.{dot_zeros}
+use Rattle.linear_rows.specs.Showing.{bottom_row}
+use Rattle.linear_rows.specs.Solving.{zeros}
 
 -- each expression that is there is of this length
 abbrev AreThere : ℕ → List (Option (List ℤ)) → Type 0
@@ -53,16 +57,16 @@ length-over n es (b ∷ row) r h e = go (lacks row es) e
         ap length (sym same) ∙ length-added (suc n) (b ∷ replicate n (pos 0)) (combined row (map or_empty es)) (ap suc (length-replicate' n)) (length-combined (suc n) row es h)
 
 -- what is shown to hold nowhere
-never_holds : (n t : ℕ) (ps : List ℤ) → 1 ≤ t → pos 0 ≤ℤ dot (never n) (pos t ∷ ps) → ⊥
+never_holds : (n t : ℕ) (ps : List ℤ) → 1 ≤ t → pos 0 ≤ℤ dot (bottom_row n) (pos t ∷ ps) → ⊥
 unfolding dot
-never_holds n t ps some h = go (dot (replicate n (pos 0)) ps) (dot_zeros n ps) h
+never_holds n t ps some h = go (dot (zeros n) ps) (dot_zeros n ps) h
   where
     go : (z : ℤ) → z ≡ pos 0 → pos 0 ≤ℤ ((negsuc 0 *ℤ pos t) +ℤ z) → ⊥
     go z e l = omega (arith, ints)
 
-shown_empty : (n : ℕ) (rows : List (List ℤ)) → Provable (map short_row rows) (never n) → AreEmpty (suc n) rows
+shown_empty : (n : ℕ) (rows : List (List ℤ)) → Provable (map short_row rows) (bottom_row n) → AreEmpty (suc n) rows
 shown_empty n rows h t w some long all =
-    never_holds n t (map pos w) some (provable_holds (suc n) rows (never n) (ap suc (length-replicate' n)) h t w some long all)
+    never_holds n t (map pos w) some (provable_holds (suc n) rows (bottom_row n) (ap suc (length-zeros n)) h t w some long all)
 
 -- over naturals the least row is at most the row
 plain_least : (a b c d : ℤ) → a ≤ℤ b → c ≤ℤ d → (a +ℤ c) ≤ℤ (b +ℤ d)

@@ -1,4 +1,5 @@
--- Whole numbers cut off at 0: a natural that does not rise where the number does not, and falls where it falls and is at least 0.
+-- Whole numbers cut off at 0: a natural that does not rise where the number does not, and falls where it falls and is
+-- at least 0.
 use Rattle.std.proofs.Common.{ℕ, suc, ◌<◌, ◌≤◌, ℤ, pos, negsuc, ◌+ℤ◌, ◌≤ℤ◌, arith}
 use Rattle.std.proofs.lemmas.Int.{ints}
 

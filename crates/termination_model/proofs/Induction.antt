@@ -1,4 +1,5 @@
--- The induction, for claims of any meaning: over the rank, the levels and the body from its last atom, for any steps that leave what a clause leaves or the rest of the goal.
+-- The induction, for claims of any meaning: over the rank, the levels and the body from its last atom, for any steps
+-- that leave what a clause leaves or the rest of the goal.
 use Rattle.std.proofs.Common.{◌≡◌, ℕ, ◌<◌, ◌≤◌, Bool, false, true, List, [], ◌∷◌, ◌++◌, map, length, ◌⊎◌, inl, inr, refl, ap, sym, subst, ◌∙◌}
 use Rattle.std.specs.List.{AllByRecursion}
 use Rattle.cti_terms.specs.declared.atom_list.Atom.{Atom}

@@ -45,8 +45,8 @@ pub fn a_self_call_is_unbounded()
     ensures { LoopGoesOn }
 {}
 
-/// The last rows of a legal chain hold wherever the rows of a clause's body do, and those of built-in predicates are the
-/// stated ones.
+/// The last rows of a legal chain hold wherever the rows of a clause's body do, and those of built-in predicates are
+/// the stated ones.
 pub fn last_rows_are_kept()
     ensures kept { ChainsKeep }
     ensures stated { ChainsState }

@@ -21,7 +21,8 @@ use linear_rows::{Numbers, Row, Rows, System, zeros};
 use std::alloc::{AllocError, Global};
 use term_size::Norm;
 
-/// The rows of the first `j` body atoms of clause `k` over the clause's variables, and the sizes of its head's arguments.
+/// The rows of the first `j` body atoms of clause `k` over the clause's variables, and the sizes of its head's
+/// arguments.
 ///
 /// A row whose numbers do not all fit is the row of zeros, and then `wide` is true. Clauses count from 1. The size rows
 /// are those of the program's predicates.

@@ -1,4 +1,5 @@
-//! Why queries end in each world that agrees with stated facts. Each is a function that does nothing, and whose clauses are proved.
+//! Why queries end in each world that agrees with stated facts. Each is a function that does nothing, and whose clauses
+//! are proved.
 
 ghost use Rattle.termination_model.specs.claims.Answered.{AnswersAgree, AnswersKeep};
 ghost use Rattle.termination_model.specs.claims.Linking.{AdmitsLink, ClaimsLink, FactsExtend, FactsLink, LinkedQueriesEnd, LinkedRowsEnd};
@@ -11,8 +12,8 @@ ghost use Rattle.termination_model.specs.columns.ColumnStronger;
 ghost use Rattle.termination_model.specs.claims.Stronger.{StrongerShow};
 ghost use Rattle.termination_model.specs.examples.Gen.{GenEnds, GenHasNoNumber};
 
-/// Where claims show it, each query that meets an admitted row, or an admitted mode, is bounded in each world that agrees
-/// with what is stated of open predicates, and each open call on the way meets a stated mode.
+/// Where claims show it, each query that meets an admitted row, or an admitted mode, is bounded in each world that
+/// agrees with what is stated of open predicates, and each open call on the way meets a stated mode.
 pub fn a_query_is_bounded_in_worlds()
     ensures rows { RowsEndIn }
     ensures modes { ModesEndIn }

@@ -1,7 +1,7 @@
 //! Looking for tokens and short texts in a text, from its beginning or around a place.
 //!
-//! `TokenReader` gives tokens with their texts to what looks at them, and `Gap` is a place with what stands on both sides
-//! of it. It depends on `prolog_tokens`.
+//! `TokenReader` gives tokens with their texts to what looks at them, and `Gap` is a place with what stands on both
+//! sides of it. It depends on `prolog_tokens`.
 #![tactic(auto)]
 
 mod gap;

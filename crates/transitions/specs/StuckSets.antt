@@ -2,10 +2,11 @@
 -- To believe, for the modes by measures of numbers.
 -- Stuck sets: transitions that exclude each list of mappings.
 --
--- A stuck set has a group for each of its transitions. A group has a point of its transition, perhaps points of others of
--- the set, and perhaps a floor, a point of its transition's head alone. At the points the rows of their transitions hold,
--- and for each number of a mapping the heads' values, less the calls' values, and the head's value at the floor sum to 0.
--- So no mapping that rises nowhere in the set can be at least 0 on the head of the group's transition and fall there.
+-- A stuck set has a group for each of its transitions. A group has a point of its transition, perhaps points of others
+-- of the set, and perhaps a floor, a point of its transition's head alone. At the points the rows of their transitions
+-- hold, and for each number of a mapping the heads' values, less the calls' values, and the head's value at the floor
+-- sum to 0. So no mapping that rises nowhere in the set can be at least 0 on the head of the group's transition and
+-- fall there.
 --
 -- To believe: `IsStuckAt`, `IsWithin`.
 use Rattle.std.specs.Prelude.{◌≡◌, ◌==◌, ℕ, zero, suc, ◌≤◌, ℤ, pos, ◌+ℤ◌, ◌-ℤ◌, Bool, true, false, if◌then◌else◌, ◌⊎◌, List, [], ◌∷◌, map, length, slice_get, Option, None, Some}

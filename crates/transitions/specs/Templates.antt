@@ -2,10 +2,10 @@
 -- To believe, for the modes by measures of numbers.
 -- Templates: rows with unknown numbers, and multipliers that prove them.
 --
--- A target is a row over n naturals that is a sum of given rows, its features, each times an unknown whole number, less a
--- natural. The rows that are known prove it, where natural multiples of them sum to a row that is at most the target in
--- each column. So the unknown numbers and the multipliers obey linear rows together, and these are the template's rows:
--- one for each target and column, the constant first. An unknown whole number is the difference of two naturals.
+-- A target is a row over n naturals that is a sum of given rows, its features, each times an unknown whole number, less
+-- a natural. The rows that are known prove it, where natural multiples of them sum to a row that is at most the target
+-- in each column. So the unknown numbers and the multipliers obey linear rows together, and these are the template's
+-- rows: one for each target and column, the constant first. An unknown whole number is the difference of two naturals.
 --
 -- To believe: `Target`, `template_rows`, `unknown_count`. What points and refutations of a template are is the law
 -- `templates_are_decided` of this crate.
@@ -16,7 +16,8 @@ use Rattle.linear_rows.specs.Rows.{column}
 use Rattle.linear_rows.specs.Solving.{zeros}
 use Rattle.linear_rows.specs.Step.{columns}
 
--- known rows over so many naturals, and a row that they are to prove: the features times the unknown numbers, less `least`
+-- known rows over so many naturals, and a row that they are to prove: the features times the unknown numbers, less
+-- `least`
 pub record Target : Type 0 where
   pub vars : ℕ
   pub rows : List (List ℤ)

@@ -2,10 +2,10 @@
 -- To believe, for the modes by measures of numbers.
 -- Transitions: what measures see of a pair of a clause's head and a call of its body, and lists that descend over them.
 --
--- A transition is over so many naturals, those of the clause's variables. Rows say what is known of them before the call.
--- The columns of the head and of the call are rows over them, where there is an expression. A mapping gives each member
--- a number for each of its columns, and an offset. A list of mappings descends where at each transition some mapping is
--- at least 0 on the head and falls to the call, and none before it rises.
+-- A transition is over so many naturals, those of the clause's variables. Rows say what is known of them before the
+-- call. The columns of the head and of the call are rows over them, where there is an expression. A mapping gives each
+-- member a number for each of its columns, and an offset. A list of mappings descends where at each transition some
+-- mapping is at least 0 on the head and falls to the call, and none before it rises.
 --
 -- To believe: `Transition`, `head_level`, `fall`, `FallsAt`, `Descends`.
 -- Source: Podelski and Rybalchenko 2004; Bradley, Manna and Sipma 2005.

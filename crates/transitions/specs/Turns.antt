@@ -2,9 +2,9 @@
 -- To believe, for the modes by measures of numbers.
 -- Turns: the search for a list that descends over transitions, one mapping at a time.
 --
--- A turn asks for a mapping, with given numbers alone, that rises at none of the transitions that remain, and that falls
--- and is at least 0 on the head at those that are marked. Its template has a target for each transition, the fall, which
--- is to be at least 1 where it is marked; and for a marked one also the level of the head.
+-- A turn asks for a mapping, with given numbers alone, that rises at none of the transitions that remain, and that
+-- falls and is at least 0 on the head at those that are marked. Its template has a target for each transition, the
+-- fall, which is to be at least 1 where it is marked; and for a marked one also the level of the head.
 --
 -- To believe: `targets`, `mapping_of`. The laws `turns_give_lists` and `refuted_turns_stick` of this crate say what
 -- points and refutations of these templates are for.
@@ -104,8 +104,8 @@ IsTurn (τ ∷ τs) l [] = HoldsThere τ (fall τ 0 l) × IsTurn τs l []
 IsTurn (τ ∷ τs) l (false ∷ bs) = HoldsThere τ (fall τ 0 l) × IsTurn τs l bs
 IsTurn (τ ∷ τs) l (true ∷ bs) = HoldsThere τ (fall τ 1 l) × HoldsThere τ (head_level τ l) × IsTurn τs l bs
 
--- where each transition has a point, multipliers that refute a template show that no mapping with these numbers alone, or
--- with others that some transition lacks, is a turn with these marks
+-- where each transition has a point, multipliers that refute a template show that no mapping with these numbers alone,
+-- or with others that some transition lacks, is a turn with these marks
 abbrev pub RefutedMarksExclude : Type 0
 RefutedMarksExclude = (width : ℕ → ℕ) (fs : List Feature) (test : Feature → Bool) (τs : List Transition) (marks : List Bool) (vs : List ℕ) (l : Mapping)
     → AllByRecursion (HasWidths width) τs → AllByRecursion HasPoint τs → length vs ≡ number_count (targets fs τs marks)

@@ -1,4 +1,5 @@
-//! Laws of templates and of the turns that find lists. Each is a function that does nothing, and whose clauses are proved.
+//! Laws of templates and of the turns that find lists. Each is a function that does nothing, and whose clauses are
+//! proved.
 
 ghost use Rattle.transitions.specs.Examples.{CountAndDown};
 ghost use Rattle.transitions.specs.StuckSets.{NoneDescends};

@@ -1,5 +1,6 @@
--- `p(X,f(X)) :- q(X).`, where no row of q is allowed: the set with the row (0,1) alone keeps the rule, since the head has
--- no such row, and the query `p(Y,t)` with a rigid t calls q all the same. So the row (1,1) above it has to be there too.
+-- `p(X,f(X)) :- q(X).`, where no row of q is allowed: the set with the row (0,1) alone keeps the rule, since the head
+-- has no such row, and the query `p(Y,t)` with a rigid t calls q all the same. So the row (1,1) above it has to be
+-- there too.
 use Rattle.std.proofs.Common.{◌≡◌, zero, suc, Bool, true, false, ◌&&◌, not, List, [], ◌∷◌, refl}
 use Rattle.cti_terms.specs.Tree.{Variable, Compound, End, More, truth}
 use Rattle.cti_terms.specs.declared.clauses.Clause.{Clause}

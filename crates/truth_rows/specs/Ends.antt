@@ -16,7 +16,8 @@ Agree ends n v w = (x : ℕ) → IsAsked ends n x → v x ≡ w x
 abbrev pub IsTold : ((ℕ → Bool) → Tree → Bool) → List ℕ → ℕ → Tree → Type 0
 IsTold truth ends n t = (v w : ℕ → Bool) → Agree ends n v w → truth v t ≡ truth w t
 
--- the row has the term's truth in the variable of its place, or the truth is determined by what is asked for before the end
+-- the row has the term's truth in the variable of its place, or the truth is determined by what is asked for before the
+-- end
 abbrev pub IsPlacedOrTold : ((ℕ → Bool) → Tree → Bool) → List ℕ → (end : ℕ) → (row : ℕ → Bool) → (j : ℕ) → Tree → Type 0
 IsPlacedOrTold truth ends end row j t = (row (48 + j) ≡ truth row t) ⊎ ((n : ℕ) → n < end → IsTold truth ends n t)
 

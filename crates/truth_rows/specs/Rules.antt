@@ -14,8 +14,8 @@ use Rattle.termination_model.specs.grounds.Grounds.{Family, IsGround}
 abbrev pub same_rank : List ℕ → ℕ → ℕ → Bool
 same_rank ranks q r = slice_index_or ranks q 0 == slice_index_or ranks r 0
 
--- If the head's row is in `pre`, each call's row is too, where the atoms before the call have their rows in `grounds`: in `pre` where the
--- call's predicate is in the head's component, else in `allowed`
+-- If the head's row is in `pre`, each call's row is too, where the atoms before the call have their rows in `grounds`:
+-- in `pre` where the call's predicate is in the head's component, else in `allowed`
 abbrev pub KeepsSets : ((ℕ → Bool) → Tree → Bool) → (pre allowed grounds : Family) → (together : ℕ → Bool) → Clause → Type 0
 KeepsSets truth pre allowed grounds together k =
     (v : ℕ → Bool) → IsGround truth pre v k.head

@@ -79,8 +79,8 @@ fn bound_clause<N: Norm>(
     Ok(rows)
 }
 
-/// The rows of a set on which each atom of a clause's body is in the set of its predicate, as far as variables are asked
-/// for after the body.
+/// The rows of a set on which each atom of a clause's body is in the set of its predicate, as far as variables are
+/// asked for after the body.
 fn join_body<N: Norm>(
     norm: &N,
     table: &mut Table,

@@ -1,9 +1,9 @@
 //! The arguments of a clause's head that are placed before its body.
 //!
 //! The truths of a few arguments stand in the variables of places before the body's rows are joined, so that their
-//! variables are left out as soon as no atom to come asks for them. Else a clause that goes over the fields of two terms
-//! in its head would have diagrams that double with each pair of fields. The truths of the other arguments are found in
-//! the end: with all twelve at once diagrams may have 2^12 nodes, even where each argument is a variable.
+//! variables are left out as soon as no atom to come asks for them. Else a clause that goes over the fields of two
+//! terms in its head would have diagrams that double with each pair of fields. The truths of the other arguments are
+//! found in the end: with all twelve at once diagrams may have 2^12 nodes, even where each argument is a variable.
 
 ghost use Rattle.std.specs.Prelude.{◌≡◌, ◌≤◌, ◌<◌, ◌+◌, ℕ, Bool, IsTrue, IfOk, length, slice_get, Some, sum_by};
 ghost use Rattle.std.specs.List.{AllByRecursion};
@@ -59,8 +59,8 @@ fn widths_of<N: Norm>(norm: &N, arguments: &Terms, vars: u32) -> [usize; MOST_AR
     widths
 }
 
-/// Whether an argument is placed before the body of a clause with this many variables: it has several of them, and is one
-/// of those with the most.
+/// Whether an argument is placed before the body of a clause with this many variables: it has several of them, and is
+/// one of those with the most.
 fn is_placed_early(widths: &[usize], place: usize, vars: u32) -> bool
     requires { place < length widths.now }
 {

@@ -36,7 +36,8 @@ impl ClauseRule<'_> {
     /// Whether the clause keeps the rule of preconditions: from each truth row of the head in `pre`, each call that is
     /// reached has a truth row in turn, in `pre` where its predicate has the rank of the head's, else in `allowed`.
     ///
-    /// A call is reached where the truth rows of all atoms before it are in `grounds`. The clause is one of the program's.
+    /// A call is reached where the truth rows of all atoms before it are in `grounds`. The clause is one of the
+    /// program's.
     pub fn is_kept<N: Norm>(
         &self,
         norm: &N,
@@ -120,7 +121,8 @@ impl ClauseRule<'_> {
         is_inside(table, reached, wanted)
     }
 
-    /// The rows on which a call is in its set: in `pre` where its predicate is of the head's component, else in `allowed`.
+    /// The rows on which a call is in its set: in `pre` where its predicate is of the head's component, else in
+    /// `allowed`.
     pub fn rows_of_call<N: Norm>(
         &self,
         norm: &N,

@@ -1,5 +1,6 @@
 -- Private.
--- Terms and equations that wait on a stack, and what they are under the stored bindings. Nothing here has to be believed.
+-- Terms and equations that wait on a stack, and what they are under the stored bindings. Nothing here has to be
+-- believed.
 use Rattle.std.specs.Prelude.{◌≡◌, ℕ, ◌+◌, ◌<◌, ◌^◌, Bool, false, ◌||◌, true, List, [], ◌∷◌, ◌++◌, map, reverse, drop, None, Some, option_map}
 use Rattle.cti_terms.specs.Tree.{Tree, Trees, nodes_of, all_instances}
 use Rattle.cti_terms.specs.declared.syntax.Term.{Term}

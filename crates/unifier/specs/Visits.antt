@@ -75,7 +75,8 @@ IsOccurrence x t (Below m) = (occurs x t ≡ false) × TermBelow m t
 abbrev pub IsFlat : List Binding → ℕ → Tree → ℕ → Type 0
 IsFlat s x t m = IsOccurrence x (full s t) (Below m)
 
--- a variable occurs in a term, or else what is put on a stack comes in the term's place, for the variables that are wanted
+-- a variable occurs in a term, or else what is put on a stack comes in the term's place, for the variables that are
+-- wanted
 abbrev pub IsLookedAt : List Binding → ℕ → Tree → List ℕ → List Tree → Bool → ℕ → List ℕ → List Tree → Type 0
 IsLookedAt s v t ys ts true above zs us = occurs v (full s t) ≡ true
 IsLookedAt s v t ys ts false above zs us = (more : List Tree) (x : ℕ) → IsWanted v above x → Leads s x ((more ++ ts) ++ t ∷ []) ys (more ++ us) zs

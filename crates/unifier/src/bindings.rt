@@ -15,8 +15,8 @@ use std::marker::Model;
 ///
 /// A variable is bound to a term as the program spells it, so that a binding copies no term.
 ///
-/// Source: the binding store of Warren 1983, with structure sharing as in Boyer and Moore 1972. What Warren keeps as a trail
-/// is the order of the slots.
+/// Source: the binding store of Warren 1983, with structure sharing as in Boyer and Moore 1972. What Warren keeps as a
+/// trail is the order of the slots.
 #[derive(Drop)]
 pub struct Bindings<'p> {
     slots: Slots<'p>,

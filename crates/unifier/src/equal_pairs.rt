@@ -23,7 +23,8 @@ pub struct OpenPair<'p> {
 
 /// Pairs of terms that were unified, or that are being unified.
 ///
-/// Only variables that are shared make a term much larger than its spelling, so pairs of variables are what is remembered.
+/// Only variables that are shared make a term much larger than its spelling, so pairs of variables are what is
+/// remembered.
 pub struct EqualPairs<'p> {
     /// How many pairs of compound terms were met.
     pub met: usize,

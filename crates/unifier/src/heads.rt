@@ -55,8 +55,8 @@ impl<'p> Stacks<'p> {
     }
 }
 
-/// Unifies two terms that are not bound variables, by bindings that are added. Where it fails, some may have been added. Only
-/// where two compound terms meet are equations put on a stack.
+/// Unifies two terms that are not bound variables, by bindings that are added. Where it fails, some may have been
+/// added. Only where two compound terms meet are equations put on a stack.
 ///
 /// The left term has variables below the limit alone, and the limit goes up with the bindings.
 #[inline(always)]
@@ -283,7 +283,8 @@ fn unify_terms<'p>(
     Ok(unified)
 }
 
-/// Unifies a term, which has variables below the limit alone, with an integer, by a binding that is added if one is needed.
+/// Unifies a term, which has variables below the limit alone, with an integer, by a binding that is added if one is
+/// needed.
 ///
 /// No equations of arguments come up. So `solve` is called from `unify_met` alone.
 pub fn unify_integer<'p>(
@@ -330,9 +331,9 @@ pub fn unify_integer<'p>(
     }
 }
 
-/// Unifies an atom, whose variables are raised by its base, with the head of a clause, whose variables are raised by a goal's
-/// counter. Arguments of compound terms are unified one after the other too. Only where two compound terms meet among these
-/// are equations put on a stack, and they are solved before the next argument.
+/// Unifies an atom, whose variables are raised by its base, with the head of a clause, whose variables are raised by a
+/// goal's counter. Arguments of compound terms are unified one after the other too. Only where two compound terms meet
+/// among these are equations put on a stack, and they are solved before the next argument.
 pub fn unify_head<'p>(
     bindings: &mut Bindings<'p>,
     stacks: &mut Stacks<'p>,

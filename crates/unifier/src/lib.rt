@@ -1,8 +1,8 @@
 //! Unification of terms of a program, in a store of bindings.
 //!
-//! A term stands where the program has it, with a base by which its variables are raised, so nothing is copied. Bindings are
-//! taken back in the order in which they were made. What is unified is proved to be what the definitions of `cti_terms` say,
-//! which substitute in whole equations. No pair of variables is unified over and over.
+//! A term stands where the program has it, with a base by which its variables are raised, so nothing is copied.
+//! Bindings are taken back in the order in which they were made. What is unified is proved to be what the definitions
+//! of `cti_terms` say, which substitute in whole equations. No pair of variables is unified over and over.
 //!
 //! Depends on `cti_terms`, and on `indexmap`, which finds the pairs of variables that were unified.
 #![tactic(auto)]

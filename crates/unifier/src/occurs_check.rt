@@ -52,8 +52,8 @@ pub fn push_arguments<'p>(
     Ok(())
 }
 
-/// The term that is not a bound variable and stands for this one, unless it is a constant that a variable is bound to, or
-/// a variable on the way to it was visited. The variables on the way are visited.
+/// The term that is not a bound variable and stands for this one, unless it is a constant that a variable is bound to,
+/// or a variable on the way to it was visited. The variables on the way are visited.
 #[inline(always)]
 fn reached<'p>(
     bindings: &Bindings<'p>,
@@ -83,8 +83,8 @@ fn reached<'p>(
     }
 }
 
-/// Whether a free variable is what a term is bound to. Else the term's arguments are put on the stack, or the number goes
-/// above its variable.
+/// Whether a free variable is what a term is bound to. Else the term's arguments are put on the stack, or the number
+/// goes above its variable.
 #[inline(always)]
 fn look<'p>(
     bindings: &Bindings<'p>,
@@ -160,8 +160,8 @@ fn look_at_all<'p>(
 }
 
 /// Whether a free variable occurs in a term under the bindings, or else a number above all that occur. Each bound
-/// variable is looked into once, and one that is bound to a constant not at all. Only arguments of compound terms are put
-/// on the stack.
+/// variable is looked into once, and one that is bound to a constant not at all. Only arguments of compound terms are
+/// put on the stack.
 ///
 /// The stack and the visited variables may be any, and are used up.
 #[inline(never)]
@@ -279,8 +279,8 @@ fn above_flat<'p>(
     Some(above)
 }
 
-/// Whether a free variable occurs in a term under the bindings, or else a number above all that occur. Most terms that are
-/// bound have flat arguments, which need no stack.
+/// Whether a free variable occurs in a term under the bindings, or else a number above all that occur. Most terms that
+/// are bound have flat arguments, which need no stack.
 #[inline(always)]
 pub fn look_for<'p>(
     bindings: &Bindings<'p>,

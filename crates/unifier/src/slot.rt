@@ -10,7 +10,8 @@ use cti_terms::Term;
 /// No variable that is bound has this number, so a slot with it in the place of a variable is that of a free one.
 pub const FREE: u32 = u32::MAX;
 
-/// A variable that is free, or one that is bound to a term, as the program spells it, whose variables are raised by a number.
+/// A variable that is free, or one that is bound to a term, as the program spells it, whose variables are raised by a
+/// number.
 ///
 /// An enum would take 24 bytes in the place of 16, and there are as many slots as variables.
 #[derive(Clone, Copy, Drop)]

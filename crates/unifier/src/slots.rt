@@ -13,10 +13,11 @@ use std::marker::Model;
 /// How many slots are made beyond those that are needed, so that few steps of a run make any.
 const SPARE: usize = 64;
 
-/// The terms of bound variables. Contracts see a list that has the tree of each bound variable, and nothing for each other
-/// one, and the list of the bound variables, the last one first.
+/// The terms of bound variables. Contracts see a list that has the tree of each bound variable, and nothing for each
+/// other one, and the list of the bound variables, the last one first.
 ///
-/// Each slot of a bound variable has the number of the one that was bound before it. So the order takes no memory of its own.
+/// Each slot of a bound variable has the number of the one that was bound before it. So the order takes no memory of
+/// its own.
 #[derive(Drop)]
 pub struct Slots<'p> {
     items: Vec<Slot<'p>>,
@@ -60,8 +61,8 @@ impl<'p> Slots<'p> {
         self.count
     }
 
-    /// Makes slots for the variables below this number, which are more than there are, and some to spare. Most bindings need
-    /// none, so it is not compiled into them. The term may be any. More than 2^32 - 1 slots are out of memory.
+    /// Makes slots for the variables below this number, which are more than there are, and some to spare. Most bindings
+    /// need none, so it is not compiled into them. The term may be any. More than 2^32 - 1 slots are out of memory.
     #[inline(never)]
     fn grow(&mut self, count: usize, term: &'p Term) -> Result<(), AllocError>
         requires { length (trees self.old) ≤ count }

@@ -94,8 +94,8 @@ fn open_arguments<'p>(
     Ok(())
 }
 
-/// What a free variable and a compound term under the bindings ask for. It is compiled into its callers, since what it finds
-/// is then kept in registers.
+/// What a free variable and a compound term under the bindings ask for. It is compiled into its callers, since what it
+/// finds is then kept in registers.
 #[inline(always)]
 fn bound_or_clash<'p>(
     bindings: &Bindings<'p>,
@@ -281,8 +281,8 @@ fn next_binding<'p>(
 
 /// Unifies the equations on the stack, by bindings that are added. Where it fails, some may have been added.
 ///
-/// Left sides have variables below the limit alone. The limit goes up with the bindings, so that this stays true, also of
-/// equations that are not on the stack.
+/// Left sides have variables below the limit alone. The limit goes up with the bindings, so that this stays true, also
+/// of equations that are not on the stack.
 pub fn solve<'p>(
     bindings: &mut Bindings<'p>,
     equations: &mut Vec<(RaisedTerm<'p>, RaisedTerm<'p>)>,

@@ -72,8 +72,8 @@ impl Visited {
         self.variables.clear();
     }
 
-    /// Visits a variable. Whether it is the first time. Most variables that a check meets are free or bound to constants, and
-    /// are not visited, so it is not compiled into the check's loop.
+    /// Visits a variable. Whether it is the first time. Most variables that a check meets are free or bound to
+    /// constants, and are not visited, so it is not compiled into the check's loop.
     #[inline(never)]
     pub fn visit(&mut self, variable: usize) -> Result<bool, AllocError>
         requires { variable < 2 ^ 33 }

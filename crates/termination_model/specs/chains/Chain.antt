@@ -1,10 +1,10 @@
 -- To believe, for the modes.
 -- How the size rows of a program's predicates come about: legal chains of steps.
 --
--- A built-in predicate starts with its stated rows, and every other one starts empty: with the one row of constant -1 and
--- zeros, which no size obeys. Components go callees
--- first, and each goes through passes. A pass takes the clauses of the component's predicates in program order, one step
--- for each, and the passes end with the first one that changes no rows.
+-- A built-in predicate starts with its stated rows, and every other one starts empty: with the one row of constant -1
+-- and zeros, which no size obeys. Components go callees first, and each goes through passes. A pass takes the clauses
+-- of the component's predicates in program order, one step for each, and the passes end with the first one that changes
+-- no rows.
 --
 -- To believe: `AreSteps`, `ArePasses`, `IsLegalChain`, over the words of `ChainSteps.antt`.
 -- Source: the fixpoint of size relations with widening, as in Mesnard and Neumerkel 2001.

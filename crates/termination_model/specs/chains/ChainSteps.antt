@@ -33,8 +33,8 @@ pub record Step : Type 0 where
   pub rows : List (List ℤ)
   pub weak : Bool
 
--- What a step may do to the n-ary rows of its head's predicate. What it knows of its clause are three facts of a row over
--- the head's arguments: it holds there, it fails at a point of it, its test there is blown.
+-- What a step may do to the n-ary rows of its head's predicate. What it knows of its clause are three facts of a row
+-- over the head's arguments: it holds there, it fails at a point of it, its test there is blown.
 module _ (speaks : List ℤ → Bool) (n : ℕ) (HoldsThere FailsThere IsBlownThere : List ℤ → Type 0) (pass : ℕ) (old image : List (List ℤ)) where
   -- neither the image nor the old rows are empty
   abbrev pub BothHavePoints : Type 0

@@ -2,8 +2,8 @@
 -- To believe, for modes over stated facts.
 -- Claims are facts: what a program answers keeps its claims.
 --
--- So a world that gives answers of a program alone agrees with what is claimed of that program, and the claims that show
--- for one program may be stated of the predicates that another one calls.
+-- So a world that gives answers of a program alone agrees with what is claimed of that program, and the claims that
+-- show for one program may be stated of the predicates that another one calls.
 --
 -- To believe: `facts_of`, `IsAnsweredBy`.
 use Rattle.std.specs.Prelude.{◌≡◌, ℕ, Bool, true, List, [], length, Some}

@@ -5,8 +5,8 @@
 -- a list of mappings, whose levels are compared in lexicographic order, with a set of truth rows for each predicate.
 -- A single mapping that decreases is the list of one. Predicates of one rank are a component.
 --
--- To believe: nothing, where only `Bounded` is wanted. `Shows` lists what has to be shown of claims so that queries end.
--- Source: level mappings and preconditions as in Mesnard and Neumerkel 2001, and Sohn and Van Gelder 1991.
+-- To believe: nothing, where only `Bounded` is wanted. `Shows` lists what has to be shown of claims so that queries
+-- end. Source: level mappings and preconditions as in Mesnard and Neumerkel 2001, and Sohn and Van Gelder 1991.
 use Rattle.std.specs.Prelude.{◌≡◌, ℕ, zero, suc, ◌<◌, ◌≤◌, ℤ, pos, negsuc, Bool, true, ◌⊎◌, List, [], ◌∷◌, map, take, slice_get, Some}
 use Rattle.std.specs.List.{AllByRecursion}
 use Rattle.cti_terms.specs.Tree.{Tree}
@@ -30,8 +30,8 @@ pub record Measure : Type 0 where
   pub mappings : List Mapping
   pub pre : Family
 
--- A norm, by its size, its truth and its size expression; the rank of each predicate, which is its component; and what is claimed of
--- predicates and components: size rows, ground rows, measures
+-- A norm, by its size, its truth and its size expression; the rank of each predicate, which is its component; and what
+-- is claimed of predicates and components: size rows, ground rows, measures
 pub record Claims : Type 0 where
   pub size : (ℕ → ℕ) → Tree → ℕ
   pub truth : (ℕ → Bool) → Tree → Bool

@@ -3,8 +3,8 @@
 -- Linking: claims of a program that takes facts of another's predicates, and the claims of that one, together.
 --
 -- The upper program p calls the lower predicates, and has no clauses of them. The lower program q has clauses of lower
--- predicates alone, and calls those alone. Both have the same table of predicates. A predicate that is open in both is a
--- lower one, as is a built-in one that both call.
+-- predicates alone, and calls those alone. Both have the same table of predicates. A predicate that is open in both is
+-- a lower one, as is a built-in one that both call.
 --
 -- To believe: `joined`, `linked_facts`, `Links`; `linked` where the modes of the whole are wanted.
 use Rattle.std.specs.Prelude.{◌≡◌, ℕ, ◌+◌, ◌-◌, ◌<◌, nat_lt, Bool, true, false, if◌then◌else◌, List, ◌++◌, length}

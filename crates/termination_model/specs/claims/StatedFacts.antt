@@ -1,7 +1,8 @@
 -- Private.
 -- To believe, for modes over stated facts.
--- What is stated of open predicates, and the theorem over it: in each world that agrees with what is stated, derivations
--- of a query with an admitted row are shorter than some bound, and each open call on the way meets a stated mode.
+-- What is stated of open predicates, and the theorem over it: in each world that agrees with what is stated,
+-- derivations of a query with an admitted row are shorter than some bound, and each open call on the way meets a stated
+-- mode.
 --
 -- To believe: `Stated`, `IsAllowed`, `Agrees`, `AllowsCalls`; for what is shown of claims, `Takes`.
 use Rattle.std.specs.Prelude.{◌≡◌, ℕ, ℤ, Bool, true, false, List, [], ◌∷◌, map, length, Some}
@@ -54,8 +55,8 @@ module _ (size : (ℕ → ℕ) → Tree → ℕ) (truth : (ℕ → Bool) → Tre
   abbrev pub AllowsCalls : Listing → World → Goal → Type 0
   AllowsCalls p w g = AllowsAfter p w [] g
 
--- what is claimed of open predicates is what is stated: their size rows, their ground rows, and in each measure of their
--- components only rows that meet a mode
+-- what is claimed of open predicates is what is stated: their size rows, their ground rows, and in each measure of
+-- their components only rows that meet a mode
 pub record Takes (c : Claims) (f : Stated) : Type 0 where
   pub rows : (q : ℕ) → f.is_open q ≡ true → c.rows q ≡ f.rows q
   pub grounds : (q : ℕ) → f.is_open q ≡ true → c.grounds q ≡ f.grounds q

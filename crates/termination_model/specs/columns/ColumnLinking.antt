@@ -1,10 +1,11 @@
 -- Private.
 -- To believe, for modes over stated facts.
--- Linking, over columns: claims of a program that takes facts of another's predicates, and the claims of that one, together.
+-- Linking, over columns: claims of a program that takes facts of another's predicates, and the claims of that one,
+-- together.
 --
 -- The upper program p calls the lower predicates, and has no clauses of them. The lower program q has clauses of lower
--- predicates alone, and calls those alone. Both have the same table of predicates. A predicate that is open in both is a
--- lower one, as is a built-in one that both call.
+-- predicates alone, and calls those alone. Both have the same table of predicates. A predicate that is open in both is
+-- a lower one, as is a built-in one that both call.
 --
 -- As Linking.antt. Both count the columns of each predicate alike: what a claim says of columns of predicates that its
 -- program does not have counts for nothing.

@@ -2,7 +2,7 @@
 -- What is shown by multipliers, over short systems of columns.
 --
 -- To believe: nothing.
-use Rattle.std.specs.Prelude.{◌≡◌, ℕ, zero, suc, ℤ, pos, negsuc, List, [], ◌∷◌, map, take, replicate, slice_get, Option, None, Some}
+use Rattle.std.specs.Prelude.{◌≡◌, ℕ, zero, suc, ℤ, List, [], ◌∷◌, map, take, slice_get, Option, None, Some}
 use Rattle.std.specs.List.{AllByRecursion}
 use Rattle.cti_terms.specs.Arithmetic.{kind_of}
 use Rattle.cti_terms.specs.declared.atom_list.Atom.{Atom}
@@ -10,6 +10,7 @@ use Rattle.cti_terms.specs.declared.builtins.Builtin.{Builtin}
 use Rattle.cti_terms.specs.declared.clauses.Clause.{Clause}
 use Rattle.cti_terms.specs.Listing.{Listing, IsProgram}
 use Rattle.termination_model.specs.grounds.Grounds.{IsClosed}
+use Rattle.linear_rows.specs.Showing.{bottom_row}
 use Rattle.termination_model.specs.sizes.Short.{Provable}
 use Rattle.termination_model.specs.sizes.ShortSystems.{short_row}
 use Rattle.termination_model.specs.columns.Columns.{AreColumns, columns_of}
@@ -19,14 +20,10 @@ use Rattle.termination_model.specs.columns.ColumnRows.{least_over}
 abbrev pub short_system : Claims → ℕ → List Atom → List (List ℤ)
 short_system c vars bs = map short_row (system c vars bs)
 
--- the row of n coefficients that holds nowhere
-abbrev pub never : ℕ → List ℤ
-never n = negsuc 0 ∷ replicate n (pos 0)
-
--- multipliers show that a target over n naturals holds where the rows do; one that needs an expression which is not there
--- is shown only where these hold nowhere
+-- multipliers show that a target over n naturals holds where the rows do; one that needs an expression which is not
+-- there is shown only where these hold nowhere
 abbrev pub TargetProvable : ℕ → List (List ℤ) → Option (List ℤ) → Type 0
-TargetProvable n rows None = Provable rows (never n)
+TargetProvable n rows None = Provable rows (bottom_row n)
 TargetProvable n rows (Some target) = Provable rows target
 
 -- a size row, over the head of a clause

@@ -1,7 +1,7 @@
 -- Private.
 -- To believe, for the modes by lists of mappings of whole numbers.
--- Stuck sets over columns: a set of calls, and for each of them a group of points, which exclude that a list falls first
--- at this call.
+-- Stuck sets over columns: a set of calls, and for each of them a group of points, which exclude that a list falls
+-- first at this call.
 --
 -- To believe: `ListDescends`, `IsNatural`, `IsStuck`.
 use Rattle.std.specs.Prelude.{◌≡◌, ℕ, suc, ◌*◌, ◌≤◌, ℤ, pos, neg_ℤ, ◌≤ℤ◌, Bool, true, ◌⊎◌, List, [], ◌∷◌, ◌++◌, map, take, length, slice_get, Option, None, Some}

@@ -2,8 +2,9 @@
 -- To believe, for who is found and for answers that are not understood.
 -- Linear terms, and their measures as rows over the numbers of a clause's variables.
 --
--- A term is linear where it is a variable, an integer, or none of the operations; or one of a+b, a-b, -a of linear terms;
--- or a*b of linear terms, one of which is fixed: it has no variable outside terms that are none of the operations.
+-- A term is linear where it is a variable, an integer, or none of the operations; or one of a+b, a-b, -a of linear
+-- terms; or a*b of linear terms, one of which is fixed: it has no variable outside terms that are none of the
+-- operations.
 --
 -- To believe: all of this file. That a row's value is the measure is the law `expressions` of columns.
 use Rattle.std.specs.Prelude.{ℕ, zero, suc, ◌*◌, ◌==◌, ◌&&◌, Bool, true, false, if◌then◌else◌, ℤ, pos, List, [], ◌∷◌, map, replicate, Option, None, Some}

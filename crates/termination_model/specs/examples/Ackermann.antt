@@ -1,5 +1,6 @@
 -- Private.
--- An example: Ackermann's function has a list of two mappings that descends, its first argument and then its second one.
+-- An example: Ackermann's function has a list of two mappings that descends, its first argument and then its second
+-- one.
 --
 --     ack(0, N, s(N)).
 --     ack(s(M), 0, R) :- ack(M, s(0), R).

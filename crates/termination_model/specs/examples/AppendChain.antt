@@ -1,7 +1,8 @@
 -- Private.
 -- An example: the chain of append.
 --
--- Its four steps begin with the image of the first clause, join that of the second, and change nothing in a second pass.
+-- Its four steps begin with the image of the first clause, join that of the second, and change nothing in a second
+-- pass.
 use Rattle.std.specs.Prelude.{ℕ, zero, suc, ℤ, pos, negsuc, Bool, true, false, List, [], ◌∷◌, ◌++◌}
 use Rattle.call_components.specs.Partition.{Partition}
 use Rattle.linear_rows.specs.Blown.{all_of}

@@ -17,7 +17,8 @@ use Rattle.termination_model.specs.lists.TurnSystem.{turn_rows, turn_unknowns}
 use Rattle.termination_model.specs.mappings.View.{Rule, fall_over}
 
 module _ (expression : ℕ → Tree → List ℤ) where
-  -- the multipliers show at each call, with scale 1, that the mapping falls by each number that is at most the call's drop
+  -- the multipliers show at each call, with scale 1, that the mapping falls by each number that is at most the call's
+  -- drop
   abbrev pub AreDrops : Mapping → List OwnCall → List ℕ → List ℕ → Type 0
   AreDrops l [] ds ms = Unit {0}
   AreDrops l (o ∷ os) [] ms = ⊥
@@ -35,7 +36,8 @@ PointsDrop =
     → AllHold (turn_rows expression positions members calls) t (cs ++ (os ++ (ds ++ ms)))
     → AreDrops expression (mapping_at arity positions members cs os) calls ds ms × SomeOf (λ d. 1 ≤ d) ds
 
--- multipliers that refute it, of which the last is that of the sum of the drops, give a stuck set of all calls that remain
+-- multipliers that refute it, of which the last is that of the sum of the drops, give a stuck set of all calls that
+-- remain
 abbrev pub RefutedTurnsStick : Type 0
 RefutedTurnsStick =
     (expression : ℕ → Tree → List ℤ) (view : List Rule) (positions : List Position) (members : List ℕ) (calls : List OwnCall) (vs : List ℕ) (s : ℕ)
@@ -54,8 +56,8 @@ module _ (expression : ℕ → Tree → List ℤ) where
       Proves (rows_before expression o) (map pos (take (length (rows_before expression o)) ms)) (fall_over expression o.rule o.member o.call.args d l) (pos 1)
       × ShowDrops l os ds (drop (length (rows_before expression o)) ms)
 
--- whatever drops multipliers show, one of them positive, are those of a point: so a call may leave in a turn whose point
--- gave it the drop 0, where its multipliers show that it falls
+-- whatever drops multipliers show, one of them positive, are those of a point: so a call may leave in a turn whose
+-- point gave it the drop 0, where its multipliers show that it falls
 abbrev pub DropsMakeTurns : Type 0
 DropsMakeTurns =
     (expression : ℕ → Tree → List ℤ) (positions : List Position) (members : List ℕ) (arity : ℕ → ℕ) (calls : List OwnCall)

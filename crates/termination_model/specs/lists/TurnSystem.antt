@@ -4,8 +4,9 @@
 --
 -- The unknowns are the coefficients of the positions, one offset for each member, one drop for each remaining call, and
 -- for each of these calls one multiplier for each row before it. There is one row for each call and each column of its
--- rule, the constant first: the level of the head, less that of the call, less the multiplied rows, is at least 0 there,
--- and in the column of constants at least the call's drop. The last row says that the drops are together at least 1.
+-- rule, the constant first: the level of the head, less that of the call, less the multiplied rows, is at least 0
+-- there, and in the column of constants at least the call's drop. The last row says that the drops are together at
+-- least 1.
 --
 -- This retells a procedure, but for the laws: a point gives a mapping with its drops, and multipliers that refute the
 -- system give a stuck set.
@@ -32,7 +33,8 @@ left (o ∷ os) (zero ∷ ds) = o ∷ left os ds
 left (o ∷ os) (suc d ∷ ds) = left os ds
 
 module _ (expression : ℕ → Tree → List ℤ) (positions : List Position) (members : List ℕ) where
-  -- the row of a call and a column, with the given numbers of drops and of multipliers of other calls before and after its own
+  -- the row of a call and a column, with the given numbers of drops and of multipliers of other calls before and after
+  -- its own
   abbrev pub turn_row : ℕ → ℕ → ℕ → ℕ → OwnCall → ℕ → List ℤ
   turn_row earlier later before after o x =
       pos 0 ∷ (position_entries expression positions members o x ++ (offset_entries expression positions members o x

@@ -1,9 +1,9 @@
 -- To believe, for the modes by lists of mappings.
--- The search for a list that descends: turns, each with a point of the system of the calls that remain. The calls with a
--- positive drop leave.
+-- The search for a list that descends: turns, each with a point of the system of the calls that remain. The calls with
+-- a positive drop leave.
 --
--- To believe: `AreTurns`, `DropsFit`, `EmptyFit`. The laws say that turns that leave no call give a list that descends, and
--- that each turn leaves fewer calls.
+-- To believe: `AreTurns`, `DropsFit`, `EmptyFit`. The laws say that turns that leave no call give a list that descends,
+-- and that each turn leaves fewer calls.
 use Rattle.std.specs.Prelude.{◌≡◌, ℕ, zero, suc, ◌≤◌, ◌<◌, ℤ, pos, true, List, [], ◌∷◌, ◌++◌, map, take, drop, length}
 use Rattle.std.specs.List.{AllByRecursion}
 use Rattle.cti_terms.specs.Tree.{Tree}
@@ -56,8 +56,8 @@ module _ (expression : ℕ → Tree → List ℤ) (view : List Rule) (arity : �
   abbrev pub positions : List Position
   positions = positions_by arity (members_of view)
 
-  -- each number fits that the check of a mapping's drops forms at the calls that remain: where the drop is positive also
-  -- those of the fall by 1
+  -- each number fits that the check of a mapping's drops forms at the calls that remain: where the drop is positive
+  -- also those of the fall by 1
   abbrev pub FitsBy : Mapping → OwnCall → List ℤ → ℕ → Type 0
   FitsBy l o ms e =
       (row_fits (fall_over expression o.rule o.member o.call.args e l) ≡ true)

@@ -4,8 +4,8 @@
 -- A row before a call that does not fit, and a blown test whether such rows are empty, blow every support. So does the
 -- solving of the support's system, and a found mapping or refutation with a number that does not fit in its check.
 --
--- This retells a procedure. That every query that meets a mode ends does not rest on it; that no mode is missing does, but
--- for what is blown.
+-- This retells a procedure. That every query that meets a mode ends does not rest on it; that no mode is missing does,
+-- but for what is blown.
 use Rattle.std.specs.Prelude.{◌≡◌, ◌==◌, ◌&&◌, ◌+◌, ℕ, ℤ, pos, Bool, true, false, List, [], ◌∷◌, ◌++◌, map, filter, take, drop, length}
 use Rattle.std.specs.List.{AllByRecursion, list_any}
 use Rattle.exact128.specs.Sums.{DotFits, entry}
@@ -77,8 +77,8 @@ module _ (expression : ℕ → Tree → List ℤ) (view : List Rule) (arity : �
   abbrev pub last_first : ℕ → List ℤ → List ℤ
   last_first n w = entry w n ∷ take n w
 
-  -- each number fits that the check of a refutation forms: the values at each point, those at the second point of a pair
-  -- whose t is 0, and the sums for each member
+  -- each number fits that the check of a refutation forms: the values at each point, those at the second point of a
+  -- pair whose t is 0, and the sums for each member
   pub record CheckFits (ps : List Pair) : Type 0 where
     pub values : AllByRecursion (λ p. AllByRecursion (FitsAt (pos p.t ∷ map pos p.w)) (pair_rows p ++ pair_sizes p)) ps
     pub seconds : AllByRecursion (λ p. (o : OwnCall) (t : ℤ) (w : List ℤ) → p.t ≡ 0 → In o (own_calls view) → o.rule ≡ p.rule → o.place ≡ p.place → emptiness o ≡ Found t w

@@ -49,7 +49,8 @@ module _ (expression : ℕ → Tree → List ℤ) where
   abbrev pub call_load : Pair → Load
   call_load p = (p.member, values_at p.rule.vars p.w p.t p.call.args)
 
-  -- the pair is one of the view, the rows before the call hold at its point, and where t is 0 also at some point with t at least 1
+  -- the pair is one of the view, the rows before the call hold at its point, and where t is 0 also at some point with t
+  -- at least 1
   pub record IsPair (view : List Rule) (p : Pair) : Type 0 where
     pub there : SomeOf (λ k. k ≡ p.rule) view
     pub call : slice_get p.rule.body p.place ≡ Some p.call

@@ -4,7 +4,8 @@
 --
 -- The unknowns are the coefficients of the positions, one offset for each member, and for each call one multiplier for
 -- each row before it. There is one row for each call and each column of its rule, the constant first: the level of the
--- head, less that of the call, less the multiplied rows, is at least 0 there, and in the column of constants at least 1.
+-- head, less that of the call, less the multiplied rows, is at least 0 there, and in the column of constants at least
+-- 1.
 --
 -- This retells a procedure, but for the laws: a point gives a mapping with its falls, and multipliers that refute the
 -- system exclude every mapping at these positions.

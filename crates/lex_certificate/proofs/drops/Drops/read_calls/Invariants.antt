@@ -3,7 +3,8 @@ use Rattle.fact_reading.specs.Walk.{with_all}
 use Rattle.lex_certificate.specs.Walk.{read_calls}
 use Rattle.lex_certificate.proofs.drops.Drops.read_calls.Given as goal
 
--- what is read in all is the proofs so far and what is read of the rest; each atom has fewer than 2 to the power of 64 rows
+-- what is read in all is the proofs so far and what is read of the rest; each atom has fewer than 2 to the power of 64
+-- rows
 abbrev pub invariant-loop-call : goal.invariant-loop-call
 invariant-loop-call l = record {
   counted : length l.proofs ≡ l.call-index;
