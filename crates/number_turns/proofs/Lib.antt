@@ -1,0 +1,9 @@
+pub mod NumberTests
+pub mod ColumnEntries
+pub mod RowLists
+pub mod DemandRows
+pub mod TemplateSteps
+pub mod TargetLists
+pub mod Differences
+pub mod Turnings
+pub mod Examples

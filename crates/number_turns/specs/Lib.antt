@@ -1,0 +1,4 @@
+pub mod Recalled
+pub mod Demanding
+pub mod Turning
+pub mod Examples
