@@ -30,7 +30,7 @@ pub use members::component_positions;
 pub use own_call::OwnCall;
 pub use picking::{in_order, picked};
 pub use position::Position;
-pub use reaching::point_of;
+pub use reaching::{Reach, emptiness, point_of};
 pub use solving::solve_by;
 pub use support_rows::support_system;
 pub use turn_rows::turn_system;
