@@ -62,7 +62,7 @@ module _ (expression : ℕ → Tree → List ℤ) (p : Listing) (comps : Partiti
     large = large;
     lists = tt;
     small = λ _. record { minimal = λ s i. absurd i; within = λ s h. inr ([], none_undecided expression p comps rows c all, refl); order = tt; single = tt; given_up = λ s i. given s };
-    more = λ _. record { few = omega arith; single = tt; spare = tt; decided = inr (inr (full_undecided expression p comps rows c all, given all)); given_up = λ s i. inl (given s).0; left_out = λ s i. absurd i };
+    more = λ _. record { few = omega arith; single = tt; spare = tt; decided = inr (inr (full_undecided expression p comps rows c all)); given_up = λ s i. given s; left_out = λ s i. absurd i };
     stuck = ((λ h. absurd (h refl)), λ k. absurd (k.1 (full_undecided expression p comps rows c all)));
     shown = λ r e. cc;
     sets = sets_undecided expression p comps rows c all (full_is_set many);
@@ -81,7 +81,7 @@ module _ (expression : ℕ → Tree → List ℤ) (p : Listing) (comps : Partiti
     large = large;
     lists = tt;
     small = λ few. record { minimal = λ s i. absurd i; within = λ s h. absurd (elim why [ inl same ↦ both b same few | inr none ↦ none s h ]); order = tt; single = tt; given_up = λ s i. given_one s i };
-    more = λ _. record { few = omega arith; single = tt; spare = tt; decided = inr (inr (inl refl, given)); given_up = λ s i. inl (given_one s i).0; left_out = λ s i. absurd i };
+    more = λ _. record { few = omega arith; single = tt; spare = tt; decided = inr (inr (inl refl)); given_up = λ s i. given_one s i; left_out = λ s i. absurd i };
     stuck = ((λ h. absurd (h refl)), λ k. absurd (k.1 (inl refl)));
     shown = λ r e. cc;
     sets = full_sets;

@@ -8,32 +8,27 @@ use Rattle.linear_rows.proofs.Members.{in-left, in-right, of-append}
 use Rattle.termination_model.specs.grounds.Minimal.{IsSet}
 use Rattle.termination_model.specs.grounds.Modes.{is_part}
 use Rattle.termination_model.proofs.Lists.{taken_more}
-use Rattle.level_systems.specs.Found.{IsBlownSet, count, full, without_number}
+use Rattle.level_systems.specs.Found.{count, without_number}
 use Rattle.level_systems.specs.Subsequences.{AreOnce}
-use Rattle.level_dual.proofs.FoundCases.{part_full}
 use Rattle.level_dual.proofs.LargeLaws.{not_before, not_within, place_in, take_whole, taken_in, without_in, without_not, without_set}
 use Rattle.level_dual.proofs.Subsequences.{once_push}
 use Rattle.lex_turns.specs.Found.{IsVoid}
-use Rattle.lex_turns.specs.FoundLists.{AreFoundLists, IsGivenUpAt, IsUnmapped}
+use Rattle.lex_turns.specs.FoundLists.{AreFoundLists, MayBeMissing}
 use Rattle.lex_turns.specs.Large.{AreTried, IsHadList, IsLeftOut}
 use Rattle.lex_turns.specs.Walked.{own_support}
 use Rattle.lex_turns.specs.declared.large.LeftOut.TheVariants.{None as NoneLeft}
 use Rattle.lex_turns.specs.declared.measure_list.MeasureList.{MeasureList}
-use Rattle.lex_turns.proofs.ListSupports.{list_had, list_sets, void_had}
-use Rattle.termination_model.specs.mappings.ComponentViews.{HasSupportIn}
+use Rattle.lex_turns.proofs.ListSupports.{list_sets}
 
 module _ (expression : ℕ → Tree → List ℤ) (p : Listing) (comps : Partition) (rows : ℕ → List (List ℤ)) (c : ℕ) where
   abbrev void : List ℕ → Type 0
   void = IsVoid expression p comps rows c
 
   abbrev given_up_at : List ℕ → Type 0
-  given_up_at = IsGivenUpAt expression p comps rows c
+  given_up_at = MayBeMissing expression p comps rows c
 
   abbrev tried_to : List ℕ → ℕ → List (List ℕ) → Type 0
   tried_to = AreTried expression p comps rows c
-
-  abbrev all : List ℕ
-  all = full expression p comps rows c
 
   abbrev many : ℕ
   many = count expression p comps rows c
@@ -92,33 +87,28 @@ module _ (expression : ℕ → Tree → List ℤ) (p : Listing) (comps : Partiti
   pub all_tried : (s : List ℕ) (k : ℕ) (blown : List (List ℕ)) → length s ≤ k → tried_to s k blown → IsLeftOut expression p comps rows c s (NoneLeft blown)
   all_tried s k blown l h = ((λ i m. h.tried i (subst (In i) (sym (take_whole s k l)) m)), h.given_up, h.once, λ t m. let w = h.tested t m in (w.0, w.2, taken_in s k w.0 w.1))
 
-  -- no mapping is known where none is found at all positions
-  unmapped_all : IsUnmapped expression p comps rows c all → IsBlownSet expression p comps rows c all ⊎ ((s : List ℕ) → HasSupportIn expression p comps rows c s → ⊥)
-  unmapped_all (inl blown) = inl blown
-  unmapped_all (inr excluded) = inr (λ s k. excluded s (part_full many s (list_sets expression p comps rows c s (list_had expression p comps rows c s k))) k)
-
   -- what is found where no position of a list can be left out
-  pub spare_found : IsTrue true ↔ (12 < many) → IsUnmapped expression p comps rows c all → (l : MeasureList) → IsHadList expression p comps rows c l → (blown : List (List ℕ))
+  pub spare_found : IsTrue true ↔ (12 < many) → (l : MeasureList) → IsHadList expression p comps rows c l → (blown : List (List ℕ))
       → IsLeftOut expression p comps rows c (own_support expression p comps rows c l) (NoneLeft blown) → AreFoundLists expression p comps rows c (record { lists = l ∷ []; refutation = None; blown = blown; large = true })
-  spare_found large unmapped l had_list blown left =
+  spare_found large l had_list blown left =
       let s = own_support expression p comps rows c l in
-      let set = list_sets expression p comps rows c s had_list.1 in
+      let set = list_sets expression p comps rows c s had_list.has in
       record {
         large = large;
-        lists = (had_list.0, tt);
+        lists = (had_list.list, tt);
         small = λ e. cc;
         more = λ _. record {
           few = omega arith;
-          single = ((λ long. unmapped_all unmapped), tt);
-          spare = ((λ i m. elim (left.0 i m) [ inl b ↦ inl b | inr v ↦ inr (void_had expression p comps rows c (without_number i s) v, λ long. v) ]), tt);
+          single = (had_list.single, tt);
+          spare = (left.0, tt);
           decided = inl (omega arith);
-          given_up = λ t i. inl (left.1 t i);
+          given_up = left.1;
           left_out = λ u m t i. elim m [
             | inl e ↦ subst (λ (z : List ℕ). (k : ℕ) × In k z × (t ≡ without_number k z)) e (let w = left.3 t i in (w.0, w.2, w.1))
             | inr none ↦ absurd none
           ];
         };
-        stuck = ((λ k. absurd (k refl)), λ k. absurd (k.0 s had_list.1));
+        stuck = ((λ k. absurd (k refl)), λ k. absurd (k.0 s had_list.has));
         shown = λ r e. cc;
         sets = λ t i. let w = left.3 t i in subst (IsSet 1 (suc many)) (sym w.1) (without_set 1 (suc many) w.0 s set);
         once = left.2;

@@ -1,5 +1,5 @@
--- The check of a certificate accepts the points that elimination's multipliers spell, where its numbers fit. So where it
--- accepts none, a number does not fit.
+-- The check of a certificate accepts the points that elimination's multipliers spell, where its numbers fit. So where
+-- it accepts none, a number does not fit.
 use Rattle.std.proofs.Common.{◌≡◌, ℕ, ◌+◌, ◌≤◌, ℤ, pos, ◌≤ℤ◌, Bool, true, false, List, [], ◌∷◌, ◌++◌, map, length, Option, None, Some, inl, ap, sym, subst, ◌∙◌, arith}
 use Rattle.std.specs.Prelude.{IfSome, unsigned_abs}
 use Rattle.std.specs.List.{AllByRecursion}

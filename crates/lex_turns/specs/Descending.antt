@@ -2,7 +2,8 @@
 -- Lists of level mappings of a component that descend, found in turns at a set of positions, and when none is found.
 --
 -- In each turn a mapping rises at none of the calls that remain, and those at which it falls by 1 leave. Where none
--- remains, the mappings of the turns are a list that descends. Positions are numbered from 1, by predicate and argument.
+-- remains, the mappings of the turns are a list that descends. Positions are numbered from 1, by predicate and
+-- argument.
 --
 -- To believe: all of this file but what speaks of the measures of turns (`AreMeasuresAt`, `IsListAt`, `AreMeasuresOf`,
 -- `IsMeasureOf`, `NoneDescends`), which no promise uses.
@@ -63,15 +64,16 @@ AreMeasuresOf p preds positions members (u ∷ us) [] = ⊥
 AreMeasuresOf p preds positions members (u ∷ us) (ms ∷ mss) = IsMeasureOf p preds positions members u ms × AreMeasuresOf p preds positions members us mss
 
 module _ (expression : ℕ → Tree → List ℤ) (p : Listing) (rows : ℕ → List (List ℤ)) where
-  -- multipliers show, over the size rows of the atoms before the call of a pair, that the level of the head less that of
-  -- the call is at least this number
+  -- multipliers show, over the size rows of the atoms before the call of a pair, that the level of the head less that
+  -- of the call is at least this number
   abbrev pub IsDrop : ℕ → List Measure → ℕ × ℕ → Multipliers → Type 0
   IsDrop d ms pair by =
       (k : Clause) (b : Atom) (head call : LevelPart) → slice_get p.clauses (pair.0 - 1) ≡ Some k → slice_get k.body (pair.1 - 1) ≡ Some b
       → level_in ms k.head.pred.0 ≡ Some head → level_in ms b.pred.0 ≡ Some call
       → AreMultipliers (row_count rows (take (pair.1 - 1) k.body)) by × IsShown (short_system expression rows k.vars (take (pair.1 - 1) k.body)) (drop_of expression d k b head call) by
 
-  -- a pair has its place where its last multipliers are: there the level falls, and it rises in none of the measures before
+  -- a pair has its place where its last multipliers are: there the level falls, and it rises in none of the measures
+  -- before
   abbrev pub HasPlace : List (List Measure) → ℕ × ℕ → List Multipliers → Type 0
   HasPlace mss pair [] = ⊥
   HasPlace [] pair (by ∷ bys) = ⊥
@@ -100,8 +102,8 @@ module _ (expression : ℕ → Tree → List ℤ) (view : List Rule) (arity : �
   is_first [] = true
   is_first (u ∷ us) = false
 
-  -- the search is given up: a row before a call does not fit, a test of emptiness is blown, or a turn cannot be made for
-  -- the calls that some turns leave
+  -- the search is given up: a row before a call does not fit, a test of emptiness is blown, or a turn cannot be made
+  -- for the calls that some turns leave
   pub data IsGivenUp : Type 0 where
     unfit : (o : OwnCall) (r : List ℤ) → In o (own_calls view) → In r (rows_before expression o) → row_fits r ≡ false → IsGivenUp
     undecided : (o : OwnCall) → In o (own_calls view) → TestIsBlown o.rule.vars (rows_before expression o) (bottom_row o.rule.vars) → IsGivenUp

@@ -1,6 +1,6 @@
 -- To believe, for the modes by lists of mappings.
--- What is found of a component's lists: one for each minimal support of a list that descends, or a stuck set, or what was
--- given up.
+-- What is found of a component's lists: one for each minimal support of a list that descends, or a stuck set, or what
+-- was given up.
 --
 -- The support of a list is the set of positions at which some mapping of it has a positive coefficient. A mapping that
 -- decreases is a list of one.
@@ -21,7 +21,7 @@ use Rattle.termination_model.specs.claims.Claims.{Mapping, SomeOf}
 use Rattle.termination_model.specs.mappings.ComponentViews.{component_view, members_in, positions_in, HasSupportIn}
 use Rattle.termination_model.specs.mappings.Excluding.{IsZeroOutside}
 use Rattle.termination_model.specs.grounds.Minimal.{IsAbove, IsExcluded, IsMinimal, IsSet}
-use Rattle.termination_model.specs.grounds.Modes.{chosen_up_to}
+use Rattle.termination_model.specs.grounds.Modes.{chosen_up_to, is_part}
 use Rattle.termination_model.specs.mappings.OwnCalls.{Position}
 use Rattle.termination_model.specs.mappings.Ready.{arity_in}
 use Rattle.termination_model.specs.lists.Stuck.{ListDescends}
@@ -54,10 +54,6 @@ support_of_list positions l = list_support_from 1 positions (mappings_of l)
 -- a list of two mappings or more
 abbrev pub IsLong : MeasureList → Type 0
 IsLong l = 2 ≤ length l.measures
-
--- one list, of a single mapping
-abbrev pub IsOneMapping : List MeasureList → Type 0
-IsOneMapping ls = map (λ (l : MeasureList). length l.measures) ls ≡ 1 ∷ []
 
 module _ (expression : ℕ → Tree → List ℤ) (p : Listing) (comps : Partition) (rows : ℕ → List (List ℤ)) (c : ℕ) where
   -- a list of mappings of the component that descends has exactly this support
@@ -109,7 +105,8 @@ module _ (expression : ℕ → Tree → List ℤ) (p : Listing) (comps : Partiti
     pub single : AllByRecursion (λ (x : PairPoint). x.at ≡ None) r.points
 
   -- up to 12 positions: one list for each minimal support, in order; each list that descends has one of them within its
-  -- support, unless that is above one that was given up; and a list is of one mapping where one decreases with its support
+  -- support, unless that is above one that was given up; and a list is of one mapping where one decreases with its
+  -- support
   pub record AreSmallLists (f : FoundLists) : Type 0 where
     pub minimal : (s : List ℕ) → In s (supports f) → IsMinimal HasList s
     pub within : (s : List ℕ) → HasList s → IsAbove (supports f) s ⊎ IsAbove f.blown s
@@ -122,23 +119,20 @@ module _ (expression : ℕ → Tree → List ℤ) (p : Listing) (comps : Partiti
   abbrev pub IsWithoutSpare : List (List ℕ) → MeasureList → Type 0
   IsWithoutSpare blown l = (i : ℕ) → In i (support_of_list (positions_in p comps c) l)
       → In (without_number i (support_of_list (positions_in p comps c) l)) blown
-      ⊎ (IsExcluded (HasSupportIn expression p comps rows c) (without_number i (support_of_list (positions_in p comps c) l))
-      × (IsLong l → IsExcluded HasList (without_number i (support_of_list (positions_in p comps c) l))))
+      ⊎ IsExcluded HasList (without_number i (support_of_list (positions_in p comps c) l))
 
-  -- nothing is known of the set of all positions: a list may be missing
-  abbrev pub IsUndecided : Type 0
-  IsUndecided = MayBeMissing (full expression p comps rows c)
+  -- a list of two or more only where no mapping was found at some set with all of its positions
+  abbrev pub IsLongAtNeed : MeasureList → Type 0
+  IsLongAtNeed l = IsLong l → (t : List ℕ) × (is_part (support_of_list (positions_in p comps c) l) t ≡ true) × IsUnmapped t
 
-  -- more: one list at most, of one mapping where some mapping decreases; or a stuck set; or nothing is known of all
-  -- positions, and these were given up. A set is given up where its search by turns was; or where its system is blown,
-  -- beside a list of one mapping
+  -- more: one list at most, none of whose positions can be left out; or a stuck set; or the set of all positions was
+  -- given up
   pub record AreLargeLists (f : FoundLists) : Type 0 where
     pub few : length f.lists ≤ 1
-    pub single : AllByRecursion (λ (l : MeasureList). IsLong l
-        → IsBlownSet expression p comps rows c (full expression p comps rows c) ⊎ ((s : List ℕ) → HasSupportIn expression p comps rows c s → ⊥)) f.lists
+    pub single : AllByRecursion IsLongAtNeed f.lists
     pub spare : AllByRecursion (IsWithoutSpare f.blown) f.lists
-    pub decided : (1 ≤ length f.lists) ⊎ (f.refutation ≢ None) ⊎ (In (full expression p comps rows c) f.blown × IsUndecided)
-    pub given_up : (s : List ℕ) → In s f.blown → IsGivenUpAt s ⊎ (IsBlownSet expression p comps rows c s × IsOneMapping f.lists)
+    pub decided : (1 ≤ length f.lists) ⊎ (f.refutation ≢ None) ⊎ In (full expression p comps rows c) f.blown
+    pub given_up : (s : List ℕ) → In s f.blown → MayBeMissing s
     -- where there is a list, each set that was given up is its support without one of its positions
     pub left_out : (s : List ℕ) → In s (supports f) → (t : List ℕ) → In t f.blown → (i : ℕ) × In i s × (t ≡ without_number i s)
 

@@ -29,7 +29,8 @@ use Rattle.lex_turns.specs.declared.turn.Step.TheVariants as step
 abbrev pub multipliers_in : ℕ → ℕ → ℕ → List ℤ → List ℤ
 multipliers_in positions members calls values = drop calls (drop members (drop positions values))
 
--- the measures rise at none of the calls, and fall at one; and where the turn is the first, they fall where a call is never reached
+-- the measures rise at none of the calls, and fall at one; and where the turn is the first, they fall where a call is
+-- never reached
 pub record IsMade (x : Component) (rest : List OwnCall) (first : Bool) (m : Made) : Type 0 where
   pub drops : ShowDrops m.measures rest m.values m.falls
   pub some : SomeFalls m.falls

@@ -10,7 +10,6 @@ ghost use Rattle.level_systems.specs.Searched.{IsComponent, IsFoundIn, IsSound};
 ghost use Rattle.lex_turns.specs.Deciding.{IsNotFound};
 ghost use Rattle.lex_turns.specs.Found.{IsListIn};
 ghost use Rattle.lex_turns.specs.FoundLists.{AreFoundLists, IsGivenUpAt, IsUnmapped};
-ghost use Rattle.lex_turns.specs.Single.{one_list};
 ghost use Rattle.linear_rows.specs.Step.{columns};
 ghost use Rattle.termination_model.specs.sizes.Sizes.{AreSizes, rows_of};
 
@@ -23,7 +22,7 @@ use crate::single::list_of_one;
 use crate::small::find_small;
 use crate::stuck::{Halt, stuck_set};
 use cti_terms::Program;
-use level_dual::{copied_sets, is_large, one_set, positions_at};
+use level_dual::{is_large, one_set, positions_at};
 use level_systems::{Answer, Component, Mapping};
 use number_tests::Refutation;
 use sequences::Sequence;
@@ -74,18 +73,8 @@ fn not_found(
     })
 }
 
-/// Mappings as lists of one.
-fn lists_of(alloc: Global, mappings: &[Mapping]) -> Result<Sequence<MeasureList>, AllocError>
-    ensures { IfOk result (λ lists. lists ≡ map one_list mappings.now) }
-{
-    let mut lists = Sequence::new(alloc);
-    for mapping in mappings {
-        lists.push(list_of_one(alloc, mapping)?)?;
-    }
-    Ok(lists)
-}
-
-/// What is found in a large component where a mapping decreases.
+/// What is found in a large component where a mapping decreases. Positions are left out as long as another mapping
+/// decreases, and then as long as a list descends.
 fn of_large_mapping(
     alloc: Global,
     p: &Program,
@@ -101,14 +90,8 @@ fn of_large_mapping(
         → AreFoundLists expression p.now comps rows c f)) }
 {
     let found = level_dual::find_large(alloc, p, component, mapping)?;
-    let lists = lists_of(alloc, found.mappings.as_slice())?;
-    let blown = copied_sets(alloc, found.blown.as_slice())?;
-    Ok(FoundLists {
-        lists,
-        refutation: None,
-        blown,
-        large: found.large,
-    })
+    let list = list_of_one(alloc, &found.mappings.as_slice()[0])?;
+    find_large(alloc, p, component, list)
 }
 
 /// What is found where a mapping decreases.

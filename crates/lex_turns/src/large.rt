@@ -1,12 +1,12 @@
-//! Components of many positions in which no mapping decreases: one list, none of whose positions can be left out.
+//! Components of many positions: one list, none of whose positions can be left out.
 
 ghost use Rattle.std.specs.Prelude.{◌≡◌, ◌↔◌, ◌<◌, ◌^◌, IfOk, IsTrue, length, map, true};
 ghost use Rattle.level_dual.specs.Components.{ForComponent};
-ghost use Rattle.level_systems.specs.Found.{count, full};
+ghost use Rattle.level_systems.specs.Found.{count};
 ghost use Rattle.level_systems.specs.Held.{spelled};
 ghost use Rattle.level_systems.specs.Searched.{IsSound};
 ghost use Rattle.level_systems.specs.Subsequences.{AreOnce};
-ghost use Rattle.lex_turns.specs.FoundLists.{AreFoundLists, IsUnmapped, is_used, mappings_of, support_of_list};
+ghost use Rattle.lex_turns.specs.FoundLists.{AreFoundLists, is_used, mappings_of, support_of_list};
 ghost use Rattle.lex_turns.specs.Large.{IsHadList, IsLeftOut, IsShorterThan};
 
 use crate::found_lists::FoundLists;
@@ -105,7 +105,6 @@ pub(crate) fn find_large(
     requires small { length component.now.positions.items < 2 ^ 32 }
     ensures { IfOk result (λ f. ForComponent p.now component.now (λ expression comps rows c.
         IsTrue true ↔ (12 < count expression p.now comps rows c)
-        → IsUnmapped expression p.now comps rows c (full expression p.now comps rows c)
         → IsHadList expression p.now comps rows c list
         → AreFoundLists expression p.now comps rows c f)) }
 {

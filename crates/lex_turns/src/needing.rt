@@ -4,9 +4,9 @@ ghost use Rattle.std.specs.Prelude.{◌≡◌, IfOk, None, false, length, true};
 ghost use Rattle.level_dual.specs.Components.{ForComponent};
 ghost use Rattle.level_systems.specs.Searched.{IsSound};
 ghost use Rattle.lex_turns.specs.Coursing.{KeepReached};
-ghost use Rattle.lex_turns.specs.Found.{IsVoid, IsWithin};
+ghost use Rattle.lex_turns.specs.Found.{IsChosen, IsVoid, IsWithin};
 
-use crate::finding::search_within;
+use crate::finding::find_at;
 use crate::measure_list::MeasureList;
 use crate::sparing::sticks;
 use crate::within::Within;
@@ -146,8 +146,8 @@ fn is_needed(
     sticks(alloc, p, component, at.as_slice(), gone)
 }
 
-/// Searches by turns at a set, which is the support of a list without the position of this number, unless it is seen
-/// that no list descends there.
+/// Searches at a set, which is the support of a list without the position of this number, unless it is seen that no
+/// list descends there.
 pub(crate) fn search_without(
     alloc: Global,
     p: &Program,
@@ -157,8 +157,12 @@ pub(crate) fn search_without(
     number: u32,
 ) -> Result<Within, AllocError>
     requires { IsSound p.now component.now }
-    ensures { IfOk result (λ within. ForComponent p.now component.now (λ expression comps rows c.
+    ensures within { IfOk result
+        (λ within. ForComponent p.now component.now (λ expression comps rows c.
         IsWithin expression p.now comps rows c set.now within)) }
+    ensures chosen { IfOk result
+        (λ within. ForComponent p.now component.now (λ expression comps rows c.
+        IsChosen expression p.now comps rows c set.now within)) }
 {
     let positions = component.positions.as_slice();
     if number > 0 && number as usize <= positions.len() {
@@ -167,5 +171,5 @@ pub(crate) fn search_without(
             return Ok(Within::Nothing);
         }
     }
-    search_within(alloc, p, component, set)
+    find_at(alloc, p, component, set)
 }

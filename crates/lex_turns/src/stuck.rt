@@ -139,10 +139,11 @@ fn stuck_by<N: Norm>(
     accepted(alloc, p, norm, sizes, component.members.as_slice(), points)
 }
 
-/// The stuck set of the calls at which a search at all positions stops, in numbers that the check of a certificate accepts.
+/// The stuck set of the calls at which a search at all positions stops, in numbers that the check of a certificate
+/// accepts.
 ///
-/// The system of the turn is solved by pivots first. Where the check does not accept their numbers, elimination solves it
-/// again.
+/// The system of the turn is solved by pivots first. Where the check does not accept their numbers, elimination solves
+/// it again.
 pub(crate) fn stuck_set<N: Norm>(
     alloc: Global,
     p: &Program,

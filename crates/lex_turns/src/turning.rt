@@ -107,8 +107,8 @@ pub(crate) fn system_of(
     turn_system(alloc, round.rest, round.at, component.by_clauses.as_slice())
 }
 
-/// Makes a turn by one way of solving. Nothing is made where the drops of the mapping that a point gives are not shown in
-/// numbers that fit.
+/// Makes a turn by one way of solving. Nothing is made where the drops of the mapping that a point gives are not shown
+/// in numbers that fit.
 fn turn_by(
     alloc: Global,
     p: &Program,

@@ -1,9 +1,8 @@
-use Rattle.std.proofs.Common.{true, false, subst, ◌∙◌}
+use Rattle.std.proofs.Common.{true, false}
 use Rattle.termination_model.specs.mappings.ComponentViews.{positions_in}
 use Rattle.level_dual.proofs.Results.{if_ok}
-use Rattle.lex_turns.specs.FoundLists.{IsUnmapped}
 use Rattle.lex_turns.specs.FoundLists.{support_of_list}
-use Rattle.lex_turns.proofs.ListWalk.{full_same, large_told}
+use Rattle.lex_turns.proofs.ListWalk.{large_told}
 use Rattle.lex_turns.proofs.deciding.of_list.Goals as goal
 
 pub returns-then-is_large : goal.returns-then-is_large
@@ -12,8 +11,7 @@ returns-then-is_large c =
     let p = c.args.p.now in
     let x = c.args.component.now in
     let large = large_told size truth expression p comps rows r x h c.is_large.result c.as_slice.result.now c.is_large.ensures c.as_slice.ensures.value true c.if-is_large.true in
-    let full = c.requires.full ∙ full_same size truth expression p comps rows r x h in
-    is size truth expression comps rows r h large (subst (IsUnmapped expression p comps rows r) full unmapped) (found.list, found.has)) c.find_large.ensures
+    is size truth expression comps rows r h large (record { list = found.list; has = found.has; single = λ long. (c.args.full, found.part, unmapped) })) c.find_large.ensures
 
 pub returns : goal.returns
 returns c =

@@ -6,8 +6,8 @@ use Rattle.level_systems.specs.Found.{without_number}
 use Rattle.level_systems.specs.Held.{spelled}
 use Rattle.level_systems.specs.declared.position.Position.{Position}
 use Rattle.level_dual.proofs.LargeLaws.{part_without, place_in, set_once}
-use Rattle.lex_turns.specs.Found.{IsVoid, IsWithin}
-use Rattle.lex_turns.specs.FoundLists.{IsGivenUpAt, support_of_list}
+use Rattle.lex_turns.specs.Found.{IsChosen, IsVoid, IsWithin}
+use Rattle.lex_turns.specs.FoundLists.{MayBeMissing, support_of_list}
 use Rattle.lex_turns.specs.Large.{AreTried}
 use Rattle.lex_turns.specs.declared.measure_list.MeasureList.{MeasureList}
 use Rattle.lex_turns.proofs.ListSupports.{list_sets}
@@ -24,7 +24,8 @@ loop-number-preserved c = λ size truth expression comps rows r h once.
     let i = get_or s k 0 in
     let at : slice_get s k ≡ Some i = there s k 0 c.loop-number-test.true in
     let before = c.loop-number.invariant size truth expression comps rows r h once in
-    let answer = c.in_ok-other.ensures size truth expression comps rows r h in
+    let answer = c.in_ok-other.ensures.within size truth expression comps rows r h in
+    let chosen = c.in_ok-other.ensures.chosen size truth expression comps rows r h in
     let set : c.in_ok-set.set ≡ without_number i s = c.in_ok-set.ensures in
     let slice : c.as_slice.result.now ≡ without_number i s = c.as_slice.ensures ∙ set in
     elim c.match-branch-3.branch [
@@ -46,7 +47,10 @@ loop-number-preserved c = λ size truth expression comps rows r h once.
       | in-GivenUp+in_ok-push-in-GivenUp w ↦
           subst (AreTried expression p comps rows r s (k + 1)) (sym (w.blown-is ∙ w.in_ok-push-in-GivenUp.ensures.ok ∙ ap (λ t. c.loop-number.blown ++ t ∷ []) set))
           (given_up_too expression p comps rows r s k i at c.loop-number.blown before once
-          (subst (IsGivenUpAt expression p comps rows r) slice (subst (IsWithin expression p comps rows r c.as_slice.result.now) w.in-GivenUp.is answer)))
+          (subst (MayBeMissing expression p comps rows r) slice (
+            subst (IsWithin expression p comps rows r c.as_slice.result.now) w.in-GivenUp.is answer,
+            subst (IsChosen expression p comps rows r c.as_slice.result.now) w.in-GivenUp.is chosen,
+          )))
     ]
 
 pub returns-clause-left_out : goal.returns-clause-left_out
