@@ -1,0 +1,10 @@
+pub mod Lines
+pub mod Text
+pub mod Range
+pub mod Reading
+pub mod Parts
+pub mod Parse
+pub mod Printed
+pub mod KindLaws
+pub mod PartLaws
+pub mod FactLaws
