@@ -2,7 +2,8 @@
 -- An example: the turns over a count down to 0 and over one without a bound, as the code takes them.
 --
 -- Of the count, what the argument has above 0, less what it has below, falls by 1, by the second row of `is`, and is at
--- least 0 on the head, by the row of `>`. The other template is refuted at the point N = 0, M = -1 and the floor N = -1.
+-- least 0 on the head, by the row of `>`. The other template is refuted at the point N = 0, M = -1 and the floor N =
+-- -1.
 use Rattle.std.specs.Prelude.{ℕ, pos, negsuc, true, List, [], ◌∷◌, map}
 use Rattle.transitions.specs.Examples.{count_transition, down_transition, features}
 use Rattle.number_turns.specs.Turning.{IsTurned}

@@ -1,3 +1,4 @@
+-- Private.
 -- To believe, for the modes by measures of numbers.
 -- Transitions and numbers of mappings as the code holds them.
 --

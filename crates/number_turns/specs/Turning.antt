@@ -1,3 +1,4 @@
+-- Private.
 -- To believe, for the modes by measures of numbers.
 -- What comes of a turn.
 --

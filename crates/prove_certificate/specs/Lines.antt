@@ -1,4 +1,4 @@
--- To believe, for the command.
+-- Private.
 -- Which facts a text has, for facts of any kind, and which of its lines is the first that is none.
 --
 -- To believe: all of this file, over `lines` of `certificate`.

@@ -1,6 +1,6 @@
 -- Private.
--- What the code reads at the front of a text. It may read more than a fact's text, so each fact that is read is compared
--- with its own text. Nothing here has to be believed.
+-- What the code reads at the front of a text. It may read more than a fact's text, so each fact that is read is
+-- compared with its own text. Nothing here has to be believed.
 use Rattle.std.specs.Prelude.{ℕ, List, ◌++◌, codes, Option, Some, None, option_map}
 use Rattle.std.specs.List.{list_all}
 use Rattle.certificate.specs.Parse.{Read, after, is_amount, kept, ◌or_else◌, read_cell, read_how, read_index, read_integer, read_last, read_list, read_mark, read_place, read_pred}

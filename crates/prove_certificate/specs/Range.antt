@@ -1,3 +1,4 @@
+-- Private.
 -- To believe, for the modes by measures with numbers.
 -- The facts that a certificate of measures with numbers may hold.
 --

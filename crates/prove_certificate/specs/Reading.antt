@@ -1,4 +1,4 @@
--- To believe, for the command.
+-- Private.
 -- What the text of a certificate of measures with numbers reads as.
 --
 -- To believe: all of this file, and below it Lines.antt, Text.antt and Range.antt.

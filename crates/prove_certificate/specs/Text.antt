@@ -1,3 +1,4 @@
+-- Private.
 -- To believe, for the modes by measures with numbers.
 -- The text of a certificate of measures with numbers: a line for each fact.
 --

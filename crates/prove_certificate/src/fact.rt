@@ -6,8 +6,8 @@ use sequences::Sequence;
 
 /// One line of a certificate.
 ///
-/// Clauses, calls, lists, measures, rows, steps and arguments are numbered from 1. A row has its constant first, and then
-/// a number for each column of its predicate's arguments.
+/// Clauses, calls, lists, measures, rows, steps and arguments are numbered from 1. A row has its constant first, and
+/// then a number for each column of its predicate's arguments.
 pub enum ProveFact {
     /// The version of the format.
     Ctiprove {

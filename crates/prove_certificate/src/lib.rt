@@ -1,8 +1,8 @@
 //! Certificates of measures with numbers: their facts, and their text.
 //!
 //! A certificate is a list of facts, each on a line of its own. `ProveCertificate::print` writes their lines, and
-//! `read` gives the facts of a text. Whether the facts stand in the right order, and whether what they claim is true, is
-//! not asked here. `read_lines` reads facts of any kind that is a `Line`.
+//! `read` gives the facts of a text. Whether the facts stand in the right order, and whether what they claim is true,
+//! is not asked here. `read_lines` reads facts of any kind that is a `Line`.
 #![tactic(auto)]
 
 mod fact;
