@@ -2,3 +2,13 @@ pub mod CapLaws
 pub mod CellLaws
 pub mod LineLaws
 pub mod RowLaws
+pub mod StatedLaws
+pub mod SizeLaws
+pub mod OverLaws
+pub mod ArgumentLaws
+pub mod SystemLaws
+pub mod LinkLaws
+pub mod NormSystems
+pub mod MeetLaws
+pub mod RootLaws
+pub mod KindLaws

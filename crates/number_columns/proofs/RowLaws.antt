@@ -40,7 +40,7 @@ numbers_zero x (suc n) =
     ap (λ k. replicate k (pos 0)) more ∙ ap (λ xs. pos 0 ∷ (pos 0 ∷ (pos 0 ∷ xs))) (numbers_zero (suc x) n)
 
 -- one variable more
-numbers_more : (s : ℕ → ℕ → ℤ) (x n : ℕ) → numbers_from 3 x (suc n) s ≡ numbers_from 3 x n s ++ (s (x + n) 0 ∷ (s (x + n) 1 ∷ (s (x + n) 2 ∷ [])))
+pub numbers_more : (s : ℕ → ℕ → ℤ) (x n : ℕ) → numbers_from 3 x (suc n) s ≡ numbers_from 3 x n s ++ (s (x + n) 0 ∷ (s (x + n) 1 ∷ (s (x + n) 2 ∷ [])))
 numbers_more s x zero = let same : x ≡ x + 0 = omega arith in ap (λ z. s z 0 ∷ (s z 1 ∷ (s z 2 ∷ []))) same
 numbers_more s x (suc n) =
     let same : suc x + n ≡ x + suc n = omega arith in
@@ -52,7 +52,7 @@ spelled_more n g =
     let same : 0 + n ≡ n = omega arith in
     ap (λ xs. pos (g Constant) ∷ xs) (sym (numbers_more s 0 n ∙ ap (λ z. numbers 3 n s ++ (s z 0 ∷ (s z 1 ∷ (s z 2 ∷ [])))) same))
 
-append_thrice : (zs : List ℤ) (a b c : ℤ) → ((zs ++ a ∷ []) ++ b ∷ []) ++ c ∷ [] ≡ zs ++ (a ∷ (b ∷ (c ∷ [])))
+pub append_thrice : (zs : List ℤ) (a b c : ℤ) → ((zs ++ a ∷ []) ++ b ∷ []) ++ c ∷ [] ≡ zs ++ (a ∷ (b ∷ (c ∷ [])))
 append_thrice [] a b c = refl
 append_thrice (z ∷ zs) a b c = ap (λ xs. z ∷ xs) (append_thrice zs a b c)
 

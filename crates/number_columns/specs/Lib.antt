@@ -1,3 +1,11 @@
 pub mod Rows
 pub mod Cells
 pub mod Lines
+pub mod ColumnLists
+pub mod ColumnSystems
+pub mod Numeric
+pub mod Links
+pub mod ColumnLaws
+pub mod NormLaws
+pub mod Laws
+pub mod Meeting

@@ -32,7 +32,7 @@ pub(crate) struct Cell {
 }
 
 impl Cell {
-    /// That of a term which is no operation.
+    /// The cell of a term that is no operation.
     fn still() -> Cell
         ensures { (rows : PartRows) → IsCell (record { rows = Some rows; fixed = true; parts = no_parts })
             no_parts result }
@@ -45,7 +45,7 @@ impl Cell {
         }
     }
 
-    /// That of a variable.
+    /// The cell of a variable.
     fn of_variable(variable: u32, column: Column) -> Cell
         ensures { (o : Option Arith) (vars : ℕ) → IsCell (linear o vars (Variable variable))
             (variable_numbers column variable) result }
@@ -65,7 +65,7 @@ impl Cell {
         }
     }
 
-    /// That of an integer.
+    /// The cell of an integer.
     fn of_integer(number: i128, column: Column) -> Cell
         ensures { (o : Option Arith) (vars : ℕ) → IsCell (linear o vars (Integer number))
             (integer_numbers column number) result }
@@ -83,7 +83,7 @@ impl Cell {
         }
     }
 
-    /// That of a negation.
+    /// The cell of a negation.
     fn negated(self) -> Cell
         ensures { (l : Linear) (p : ℕ × ℕ) → IsCell l p self
             → IsCell (minus_linear l) (minus_parts p) result }
@@ -95,7 +95,7 @@ impl Cell {
         }
     }
 
-    /// That of a sum.
+    /// The cell of a sum.
     fn plus(self, other: Cell) -> Cell
         ensures { (l m : Linear) (p q : ℕ × ℕ) → IsCell l p self → IsCell m q other
             → IsCell (sum_linear l m) (sum_parts p q) result }
@@ -108,7 +108,7 @@ impl Cell {
         }
     }
 
-    /// That of a product.
+    /// The cell of a product.
     fn times(self, other: Cell) -> Cell
         ensures { (l m : Linear) (p q : ℕ × ℕ) → IsCell l p self → IsCell m q other
             → IsCell (product_linear l m) (product_numbers l p m q) result }
@@ -137,7 +137,7 @@ fn is_operation(arith: Arith, name: Name) -> bool
     name == arith.plus || name == arith.minus || name == arith.times
 }
 
-/// That of an operation's name with one argument.
+/// The cell of an operation's name with one argument.
 fn cell_of_one(arith: Arith, name: Name, first: Cell) -> Cell
     ensures { (vars : ℕ) (l : Linear) (p : ℕ × ℕ) → IsCell l p first
         → IsCell (linear_of vars (Some arith) name.0 (l ∷ []))
@@ -150,7 +150,7 @@ fn cell_of_one(arith: Arith, name: Name, first: Cell) -> Cell
     }
 }
 
-/// That of an operation's name with two arguments.
+/// The cell of an operation's name with two arguments.
 fn cell_of_two(arith: Arith, name: Name, first: Cell, second: Cell) -> Cell
     ensures { (vars : ℕ) (l m : Linear) (p q : ℕ × ℕ) → IsCell l p first → IsCell m q second
         → IsCell (linear_of vars (Some arith) name.0 (l ∷ (m ∷ [])))

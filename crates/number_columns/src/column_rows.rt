@@ -1,12 +1,13 @@
 //! The rows of what a term's value has above 0 and below.
 
-ghost use Rattle.std.specs.Prelude.{ℕ, suc, IfOk, OnOk};
+ghost use Rattle.std.specs.Prelude.{◌≡◌, ◌++◌, ◌∷◌, [], ℕ, suc, IfOk, OnOk};
 ghost use Rattle.cti_terms.specs.Spell.{tree_of};
 ghost use Rattle.termination_model.specs.columns.Expressions.{expression};
 ghost use Rattle.number_columns.specs.Lines.{AreLinesTo};
 ghost use Rattle.number_columns.specs.Rows.{IsExpressionRow};
 
 use crate::cell::{Column, cell_at};
+use crate::columns::ColumnList;
 use crate::line::Lines;
 use cti_terms::{Arith, Term};
 use linear_rows::Row;
@@ -22,6 +23,17 @@ pub struct ValueRows {
 impl Drop for ValueRows {
     fn drop(self) {
         let ValueRows { above: _, below: _ } = self;
+    }
+}
+
+impl ValueRows {
+    /// Puts them last into a list of columns.
+    pub(crate) fn add_to(self, list: &mut ColumnList) -> Result<(), AllocError>
+        ensures { OnOk result (list.new ≡ list.old ++ self.above ∷ (self.below ∷ [])) }
+    {
+        let ValueRows { above, below } = self;
+        list.push(above)?;
+        list.push(below)
     }
 }
 

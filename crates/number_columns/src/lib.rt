@@ -7,9 +7,31 @@
 //! and `linear_rows`.
 #![tactic(auto)]
 
+mod arguments;
 mod cell;
 mod column_rows;
+mod column_systems;
+mod columns;
+mod evaluated;
+mod finding;
+mod kind;
+pub mod laws;
 mod line;
+mod links;
+mod norm_columns;
+mod numeric;
 mod parts;
+mod rows_over;
+mod stated;
+mod three_columns;
 
+pub use arguments::atom_columns;
 pub use column_rows::{ValueRows, value_rows};
+pub use column_systems::{ColumnSystem, add_atom, column_system};
+pub use columns::{ColumnList, Columns, MOST_WIDTH};
+pub use finding::program_kinds;
+pub use kind::{Kind, Kinds};
+pub use norm_columns::NormColumns;
+pub use rows_over::{RowOver, row_over};
+pub use stated::stated_value_rows;
+pub use three_columns::ThreeColumns;

@@ -50,6 +50,17 @@ impl Line {
         Ok(())
     }
 
+    /// Adds the three numbers of a variable, of which all but the first are 0.
+    pub(crate) fn push_variable(&mut self, number: u128) -> Result<(), AllocError>
+        ensures { OnOk result ((zs : List ℤ) (n : ℕ) → number ≡ capped n
+            → IsLine zs self.old → IsLine (zs ++ pos n ∷ (pos 0 ∷ (pos 0 ∷ []))) self.new) }
+    {
+        self.push(number)?;
+        self.push(0)?;
+        self.push(0)?;
+        Ok(())
+    }
+
     /// The row, where all its numbers fit.
     pub(crate) fn into_row(self) -> Option<Row>
         ensures { (zs : List ℤ) → IsLine zs self → IsRowIfFits zs result }

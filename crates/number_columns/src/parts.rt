@@ -12,14 +12,14 @@ pub(crate) struct Parts {
 }
 
 impl Parts {
-    /// Those of 0.
+    /// The parts of 0.
     pub(crate) fn none() -> Parts
         ensures { IsCapped no_parts result }
     {
         Parts { above: 0, below: 0 }
     }
 
-    /// Those of an integer.
+    /// The parts of an integer.
     pub(crate) fn of_integer(number: i128) -> Parts
         ensures { IsCapped (of_integer number) result }
     {
@@ -37,7 +37,7 @@ impl Parts {
         }
     }
 
-    /// Those of the negated value.
+    /// The parts of the negated value.
     pub(crate) fn negated(self) -> Parts
         ensures { (p : ℕ × ℕ) → IsCapped p self → IsCapped (minus_parts p) result }
     {
@@ -47,7 +47,7 @@ impl Parts {
         }
     }
 
-    /// Those of a sum.
+    /// The parts of a sum.
     #[tactic(auto, using(crate::proofs::CapLaws::capped_sum))]
     pub(crate) fn plus(self, other: Parts) -> Parts
         ensures { (p q : ℕ × ℕ) → IsCapped p self → IsCapped q other
@@ -59,7 +59,7 @@ impl Parts {
         }
     }
 
-    /// Those of a product.
+    /// The parts of a product.
     #[tactic(auto, using(crate::proofs::CapLaws::capped_sum_of_products))]
     pub(crate) fn times(self, other: Parts) -> Parts
         ensures { (p q : ℕ × ℕ) → IsCapped p self → IsCapped q other
