@@ -1,0 +1,16 @@
+pub mod AppendChain
+pub mod Chains
+pub mod Filling
+pub mod Kept
+pub mod Making
+pub mod Norms
+pub mod Noting
+pub mod Parts
+pub mod Proved
+pub mod Ready
+pub mod Repeating
+pub mod Running
+pub mod States
+pub mod Stepping
+pub mod Steps
+pub mod Systems
