@@ -1,0 +1,2 @@
+pub mod NaturalColumns
+pub mod HeldTransitions
