@@ -29,6 +29,7 @@ pass python3 -B tools/test_gate_page.py
 pass tools/proved.py
 pass tools/crates.py --check
 pass tools/believe.py --check
+pass tools/prose.py
 # Commits that have landed cannot be changed, so their first lines fail nothing.
 tools/commits.py --count
 if is_new bin/cti; then
