@@ -702,7 +702,7 @@ test(time_for_the_first_question_alone, Modes == [[1], [3]]) :-
     predicate_of(Answer, app/3, Predicate),
     findall(Arguments, member(mode{arguments:Arguments, by:ground}, Predicate.modes), Modes).
 
-%   What docs/real-files.md shows is what is said.
+%   What docs/real-files.md and docs/tutorial.md show is what is said.
 
 test(page, [forall(page_command(Directory, Words, Expected)), cleanup(delete_directory_and_contents(Directory)), true]) :-
     getenv('CTI', Cti0),
@@ -722,20 +722,29 @@ starts_with([Line|Expected], [Line|Lines]) :-
 %   directory that has its files.
 
 page_command(Directory, Words, Expected) :-
-    page_blocks(Blocks),
+    member(Name, ['../docs/real-files.md', '../docs/tutorial.md']),
+    page_blocks(Name, Blocks),
     findall(Command, ( member(Block, Blocks), commands(Block, Commands), member(Command, Commands) ), All),
     All = [_, _, _, _|_],
     member(command(Words, Expected), All),
     tmp_file(page, Directory),
     make_directory(Directory),
-    forall(( member(Block, Blocks), page_file(Block, Name, Text) ),
-           ( directory_file_path(Directory, Name, File),
-             setup_call_cleanup(open(File, write, Out, [encoding(utf8)]), write(Out, Text), close(Out)) )).
+    forall(( member(Block, Blocks), page_file(Block, FileName, Text) ),
+           ( directory_file_path(Directory, FileName, File),
+             setup_call_cleanup(open(File, write, Out, [encoding(utf8)]), write(Out, Text), close(Out)) )),
+    forall(( member(Block, Blocks), member(Line, Block), string_concat("$ sed ", _, Line) ),
+           changed(Directory, Line)).
 
-page_blocks(Blocks) :-
+%   changed(+Directory, +Line): makes the file that a line with `sed` makes.
+
+changed(Directory, Line) :-
+    string_concat("$ ", Command, Line),
+    process_create(path(sh), ['-c', Command], [cwd(Directory)]).
+
+page_blocks(Name, Blocks) :-
     module_property(cti_file, file(Module)),
     file_directory_name(Module, Directory),
-    directory_file_path(Directory, '../docs/real-files.md', Page),
+    directory_file_path(Directory, Name, Page),
     read_file_to_string(Page, Text, [encoding(utf8)]),
     split_string(Text, "\n", "", Lines),
     blocks(Lines, Blocks).
