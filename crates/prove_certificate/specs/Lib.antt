@@ -5,6 +5,7 @@ pub mod Reading
 pub mod Parts
 pub mod Parse
 pub mod Printed
+pub mod SharedFacts
 pub mod KindLaws
 pub mod PartLaws
 pub mod FactLaws

@@ -14,6 +14,7 @@ mod parts;
 mod printing;
 mod prove_certificate;
 mod reading;
+mod shared_fact;
 
 pub use fact::ProveFact;
 pub use kind::CertKind;

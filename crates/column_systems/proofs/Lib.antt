@@ -1,0 +1,4 @@
+pub mod ClaimLaws
+pub mod Lawful
+pub mod Made
+pub mod Proved

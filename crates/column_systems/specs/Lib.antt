@@ -1,0 +1,2 @@
+pub mod ColumnSystems
+pub mod Laws

@@ -1,0 +1,4 @@
+pub mod Flat
+pub mod Order
+pub mod Shape
+pub mod Structure

@@ -1,0 +1,14 @@
+pub mod JoinedRows
+pub mod TargetLaws
+pub mod DropLists
+pub mod LeastRows
+pub mod Places
+pub mod Shares
+pub mod Totals
+pub mod OwnPoints
+pub mod AtomSides
+pub mod GroupLaws
+pub mod StuckLaws
+pub mod ProvedTargets
+pub mod SticksLaws
+pub mod ZeroRows

@@ -1,0 +1,6 @@
+pub mod Targets
+pub mod Drops
+pub mod StuckGroups
+pub mod Shape
+pub mod Testing
+pub mod Laws
