@@ -1,7 +1,8 @@
 -- Private.
 -- The systems of a program's clauses over columns: each argument has as many columns as its kind says.
 --
--- To believe: `column_systems`, `AreNumbers`. That these systems are those of claims is the law `systems_are_of_claims`.
+-- To believe: `column_systems`, `AreNumbers`. That these systems are those of claims is the law
+-- `systems_are_of_claims`.
 use Rattle.std.specs.Prelude.{◌≡◌, ℕ, suc, ◌+◌, ◌*◌, ◌≤◌, ℤ, true, sum, List, [], ◌∷◌, length, Some}
 use Rattle.std.specs.List.{AllByRecursion}
 use Rattle.cti_terms.specs.Arithmetic.{kind_of}

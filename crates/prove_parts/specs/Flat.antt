@@ -1,3 +1,4 @@
+-- Private.
 -- To believe, for the modes by measures with numbers.
 -- Lists as mappings: what preconditions and modes see of a list is at which arguments some measure of it has a number.
 --

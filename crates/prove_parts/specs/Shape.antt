@@ -1,3 +1,4 @@
+-- Private.
 -- To believe, for the modes by measures with numbers.
 -- The shape of parts: how many there are, how wide they are, and in which ranges their numbers are.
 --

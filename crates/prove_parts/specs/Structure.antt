@@ -1,3 +1,4 @@
+-- Private.
 -- To believe, for the modes by measures with numbers.
 -- What the facts of a certificate of measures with numbers say of a program, and with which parts.
 --
