@@ -1,0 +1,15 @@
+mod ColumnLists
+mod Courses
+mod Grouped
+mod HeldSupports
+mod Lacking
+mod ListCases
+mod ListEnds
+mod ListSupports
+mod ListWalk
+mod Numbers
+mod SetEnds
+mod SparePositions
+mod Steps
+mod Tracked
+mod VoidSets

@@ -1,0 +1,10 @@
+pub mod Coursing
+pub mod Features
+pub mod Found
+pub mod FoundLists
+pub mod Grouping
+pub mod Large
+pub mod Lists
+pub mod Systems
+pub mod Tracking
+pub mod Walked

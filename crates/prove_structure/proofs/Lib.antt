@@ -1,0 +1,12 @@
+pub mod LoopLemmas
+pub mod PairLemmas
+pub mod PartsLemmas
+pub mod KindLemmas
+pub mod TakeLemmas
+pub mod ListLemmas
+pub mod ClauseLemmas
+pub mod DropLemmas
+pub mod StuckLemmas
+pub mod StructureLemmas
+pub mod WholeLemmas
+pub mod ComponentLemmas

@@ -1,0 +1,15 @@
+use Rattle.std.proofs.Common.{◌∙◌}
+use Rattle.fact_reading.proofs.LoopLemmas.{fills_err, fills_last}
+use Rattle.prove_structure.proofs.PartsLemmas.{proofs_err, grounds_err, model_read}
+use Rattle.prove_structure.proofs.reading.model_into.Goals as goal
+
+pub returns-in_err-rest-2 : goal.returns-in_err-rest-2
+returns-in_err-rest-2 c =
+    fills_err c.from_residual-in_err-rest-2.result _ _ _ _ _ c.from_residual-in_err-rest-2.ensures c.in_err-rest-2.ensures λ w bad.
+    proofs_err _ _ _ _ _ _ (c.from-preds.ensures ∙ c.preds.ensures.count) (c.from-clauses.ensures ∙ c.clauses.ensures.count) _ _ c.in_ok-rest.ensures w bad
+
+pub returns : goal.returns
+returns c =
+    fills_last c.each_into-2.result _ _ _ _ c.each_into-2.ensures
+    (λ s read. model_read _ _ _ _ _ _ (c.from-preds.ensures ∙ c.preds.ensures.count) (c.from-clauses.ensures ∙ c.clauses.ensures.count) _ _ c.in_ok-rest.ensures _ _ c.in_ok-rest-2.ensures _ _ read)
+    (λ w bad. grounds_err _ _ _ _ _ _ (c.from-preds.ensures ∙ c.preds.ensures.count) (c.from-clauses.ensures ∙ c.clauses.ensures.count) _ _ c.in_ok-rest.ensures _ _ c.in_ok-rest-2.ensures w bad)
