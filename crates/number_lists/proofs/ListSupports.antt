@@ -347,8 +347,8 @@ offsets_sole : (members : List ℕ) → AreOnce members → AreOnce (map (λ (q 
 offsets_sole [] h = tt
 offsets_sole (q ∷ members) h = (
   (λ i.
-  let (r, j, is) = of-map (λ (x : ℕ). let g : Feature = (x, 0) in g) members (q, 0) i in
-  h.0 (subst (λ (x : ℕ). In x members) (ap (λ (g : Feature). g.0) is) j)),
+      let (r, j, is) = of-map (λ (x : ℕ). let g : Feature = (x, 0) in g) members (q, 0) i in
+      h.0 (subst (λ (x : ℕ). In x members) (ap (λ (g : Feature). g.0) is) j)),
   offsets_sole members h.1,
 )
 
